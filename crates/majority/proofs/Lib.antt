@@ -1,0 +1,10 @@
+pub mod Logic
+pub mod Seek
+pub mod Pass
+pub mod Nodes
+pub mod Formed
+pub mod Levels
+pub mod Numbers
+pub mod Order
+pub mod Accepted
+pub mod Kept

@@ -1,0 +1,86 @@
+-- Refusals 2 to 5 over the records of a table, in their order (SPEC 3).
+use Prim.Native.Nat.{ℕ, zero, suc, _+_}
+use mathlib.Core.Bool.{Bool, false, not, _||_}
+use mathlib.Core.List.{List, [], _∷_}
+use lib.ListN.{length}
+use lib.Dec.{ltb, eqb}
+use Rattle.majority.specs.If.{if_then_else_}
+use Rattle.majority.specs.Edge.{nodeOf}
+use Rattle.majority.specs.Seek.{first}
+use Rattle.majority.specs.Table.{recordAt}
+use Rattle.majority.specs.declared.Record.{Record}
+use Rattle.majority.specs.declared.Counts.{Counts}
+
+-- a reply: what was asked for, or a refusal's number and the record that it carries
+pub data Reply (A : Type 0) : Type 0 where
+  accepted : A → Reply A
+  refused : ℕ → ℕ → Reply A
+
+-- what f replies to what was accepted; a refusal stands
+abbrev pub andThen : {A B : Type 0} → Reply A → (A → Reply B) → Reply B
+andThen (accepted x) f = f x
+andThen (refused k i) f = refused k i
+
+-- 2: a kind is not 1 to 3, or is lower than the kind before it
+abbrev pub badKind : ℕ → ℕ → Bool
+badKind before kind = ltb kind 1 || ltb 3 kind || ltb kind before
+
+-- the kind of the record before i, and 0 before the first
+unfoldable pub kindBefore : List Record → ℕ → ℕ
+kindBefore rs zero = 0
+kindBefore rs (suc i) = recordAt rs i .kind
+
+unfoldable pub badKindAt : List Record → ℕ → Bool
+badKindAt rs i = badKind (kindBefore rs i) (recordAt rs i .kind)
+
+-- how many records have the kind k
+unfoldable pub count : ℕ → List Record → ℕ
+count k [] = 0
+count k (r ∷ rs) = (if eqb (r .kind) k then 1 else 0) + count k rs
+
+abbrev pub countsOf : List Record → Counts
+countsOf rs = record { inputs = count 1 rs; gates = count 2 rs; outputs = count 3 rs }
+
+-- 3: a count is past its limit, or there is no output
+abbrev pub badCounts : Counts → Bool
+badCounts c = ltb 32 (c .inputs) || ltb 1024 (c .gates) || ltb 32 (c .outputs) || ltb (c .outputs) 1
+
+-- 4: a field that must be zero is not: any of an input, the second or third of an output
+abbrev pub notZero : Record → Bool
+notZero r =
+    if eqb (r .kind) 1 then not (eqb (r .e1) 0) || not (eqb (r .e2) 0) || not (eqb (r .e3) 0)
+    else if eqb (r .kind) 2 then false
+    else not (eqb (r .e2) 0) || not (eqb (r .e3) 0)
+
+-- the edge e names a node past last
+abbrev pub past : ℕ → ℕ → Bool
+past last e = ltb last (nodeOf e)
+
+-- 5: an edge names a node it may not. The gate of record i is node i + 1, so its edges name nodes up to i; an output's names any node, up to last
+abbrev pub badEdge : ℕ → ℕ → Record → Bool
+badEdge last i r =
+    if eqb (r .kind) 1 then false
+    else if eqb (r .kind) 2 then past i (r .e1) || past i (r .e2) || past i (r .e3)
+    else past last (r .e1)
+
+-- the refusal of record i in a table whose last node is last, 4 before 5; 0 where there is none
+unfoldable pub faultOf : ℕ → ℕ → Record → ℕ
+faultOf last i r = if notZero r then 4 else if badEdge last i r then 5 else 0
+
+unfoldable pub faultyAt : ℕ → List Record → ℕ → Bool
+faultyAt last rs i = not (eqb (faultOf last i (recordAt rs i)) 0)
+
+-- 4 and 5 by the first bad record, of a table with these counts
+unfoldable pub checkFields : Counts → List Record → Reply Counts
+checkFields c rs =
+    let last = c .inputs + c .gates in
+    let bad = first (faultyAt last rs) (length rs) in
+    if ltb bad (length rs) then refused (faultOf last bad (recordAt rs bad)) bad else accepted c
+
+-- 2 over all records, for the first bad one, then 3, then 4 and 5
+unfoldable pub checkRecords : List Record → Reply Counts
+checkRecords rs =
+    let bad = first (badKindAt rs) (length rs) in
+    if ltb bad (length rs) then refused 2 bad
+    else if badCounts (countsOf rs) then refused 3 0
+    else checkFields (countsOf rs) rs

@@ -1,0 +1,9 @@
+pub mod If
+pub mod Edge
+pub mod Table
+pub mod Node
+pub mod Value
+pub mod Level
+pub mod Seek
+pub mod Check
+pub mod Kept

@@ -1,0 +1,47 @@
+-- What a call that checks first knows of an accepted table, and what it replies.
+use Prim.Native.Nat.{ℕ, _+_, _*_, _/_}
+use mathlib.Core.Path.{_≡_, sym, ap, _∙_}
+use mathlib.Core.List.{List}
+use native.Mathlib.Omega.{arith}
+use Rattle.majority.specs.Check.{Reply, accepted, refused, andThen}
+use Rattle.majority.specs.declared.Record.{Record}
+use Rattle.majority.specs.declared.Counts.{Counts}
+use Rattle.majority.proofs.Accepted.{acceptance}
+use Rattle.tables.specs.Bytes.{tableOf}
+use Rattle.tables.specs.Calls.{checkOf}
+use Rattle.tables.specs.Worths.{Sound, tableIn}
+use Rattle.tables.specs.Said.{refusalNumber, refusalRecord, saidCheck}
+use Rattle.tables.specs.declared.Refusal.{Refusal}
+use Rattle.tables.specs.declared.Checked.{Checked}
+use Rattle.tables.specs.declared.Checked.the-variants.{Accepted, Refused}
+use Rattle.tables.proofs.Decoded.{length-table}
+use Rattle.tables.proofs.Encoded.{accepted-records}
+
+module _ (xs : List ℕ) (used : ℕ) where
+  module _ (c : Counts) (is : checkOf xs used ≡ accepted c) where
+    -- the used length is that of the records which the counts say
+    pub checked-length : used ≡ 8 * (c .inputs + c .gates + c .outputs)
+    checked-length =
+        let w = accepted-records xs used c is in
+        let whole = acceptance _ _ _ _ (w .2) .formed .whole in
+        omega (arith, w .0, length-table xs (used / 8))
+
+    checked-table : tableOf xs (used / 8) ≡ tableIn xs c
+    checked-table = let e : used / 8 ≡ c .inputs + c .gates + c .outputs = omega (arith, checked-length) in rw e
+
+    pub checked-sound : Sound xs c
+    checked-sound =
+        let w = accepted-records xs used c is in
+        record { fits = omega (arith, checked-length, w .1); sound = rw checked-table at (w .2) }
+
+  -- the reply of a call that makes `f` of an accepted table
+  module _ {A : Type 0} (f : List Record → Counts → Reply A) (r : Checked) (said : saidCheck r ≡ checkOf xs used) where
+    pub after-accepted : (c : Counts) → r ≡ Accepted c → andThen (checkOf xs used) (f (tableOf xs (used / 8))) ≡ f (tableIn xs c) c
+    after-accepted c e =
+        let is : checkOf xs used ≡ accepted c = sym said ∙ ap saidCheck e in
+        rw (is, checked-table c is)
+
+    pub after-refused : (refusal : Refusal) → r ≡ Refused refusal → andThen (checkOf xs used) (f (tableOf xs (used / 8))) ≡ refused (refusalNumber refusal) (refusalRecord refusal)
+    after-refused refusal e =
+        let is : checkOf xs used ≡ refused (refusalNumber refusal) (refusalRecord refusal) = sym said ∙ ap saidCheck e in
+        rw is

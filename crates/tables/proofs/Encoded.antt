@@ -1,0 +1,75 @@
+-- Bytes are the encoding of the records that they hold; so an accepted buffer is the encoding of its table, and the rest.
+use Prim.Native.Nat.{ℕ, zero, suc, _+_, _*_, _/_, _%_, _≤_, _<_}
+use mathlib.Core.Path.{_≡_, refl, _∙_}
+use mathlib.Core.Bool.{Bool, true, false, not}
+use mathlib.Core.List.{List, _++_}
+use native.Mathlib.Omega.{arith}
+use borrow.Author.Tests.{ltb-false, eqb-true, not-false}
+use lib.Dec.{ltb, eqb}
+use lib.ListN.{length, getD, drop}
+use lib.Seq.{drop-cons}
+use Rattle.majority.specs.If.{if_then_else_}
+use Rattle.majority.specs.Check.{accepted, refused, checkRecords}
+use Rattle.majority.specs.declared.Counts.{Counts}
+use Rattle.majority.proofs.Logic.{neither}
+use Rattle.tables.specs.Field.{fieldAt}
+use Rattle.tables.specs.Bytes.{recordIn, decode, tableOf, fieldBytes, recordBytes, encode}
+use Rattle.tables.specs.Calls.{badLength, checkOf}
+
+-- every number of the list is a byte
+abbrev pub Bytes : List ℕ → Type 0
+Bytes xs = (i : ℕ) → getD xs i 0 < 256
+
+module _ (xs : List ℕ) (bytes : Bytes xs) where
+  drop-field : (k : ℕ) → 2 * k + 1 < length xs → drop (2 * k) xs ≡ fieldBytes (fieldAt xs k) (drop (2 * (k + 1)) xs)
+  unfolding fieldAt
+  drop-field k h =
+      let a = getD xs (2 * k) 0 in
+      let b = getD xs (2 * k + 1) 0 in
+      let la = bytes (2 * k) in
+      let lb = bytes (2 * k + 1) in
+      let p : (a + 256 * b) % 256 ≡ a = omega arith in
+      let q : (a + 256 * b) / 256 ≡ b = omega arith in
+      let e : suc (2 * k) ≡ 2 * k + 1 = omega arith in
+      let e2 : suc (2 * k + 1) ≡ 2 * (k + 1) = omega arith in
+      drop-cons xs (2 * k) 0 (omega arith) ∙ rw (e, drop-cons xs (2 * k + 1) 0 h, e2, p, q)
+
+  drop-record : (i : ℕ) → 8 * i + 7 < length xs → drop (8 * i) xs ≡ recordBytes (recordIn xs i) (drop (8 * (i + 1)) xs)
+  drop-record i h =
+      let e0 : 8 * i ≡ 2 * (4 * i) = omega arith in
+      let e1 : 4 * i + 1 + 1 ≡ 4 * i + 2 = omega arith in
+      let e2 : 4 * i + 2 + 1 ≡ 4 * i + 3 = omega arith in
+      let e3 : 2 * (4 * i + 3 + 1) ≡ 8 * (i + 1) = omega arith in
+      rw (e0, drop-field (4 * i) (omega arith), drop-field (4 * i + 1) (omega arith), e1, drop-field (4 * i + 2) (omega arith), e2, drop-field (4 * i + 3) (omega arith), e3)
+
+  drop-decode : (k i : ℕ) → 8 * (i + k) ≤ length xs → drop (8 * i) xs ≡ encode (decode xs i k) ++ drop (8 * (i + k)) xs
+  unfolding encode decode
+  drop-decode zero i h = let e : i + 0 ≡ i = omega arith in rw e
+  drop-decode (suc k) i h =
+      let e : i + suc k ≡ suc i + k = omega arith in
+      let e1 : i + 1 ≡ suc i = omega arith in
+      let r = drop-decode k (suc i) (omega arith) in
+      drop-record i (omega arith) ∙ rw (e1, r, e)
+
+  pub as-encoded : (n : ℕ) → 8 * n ≤ length xs → xs ≡ encode (tableOf xs n) ++ drop (8 * n) xs
+  as-encoded n h = let e : 0 + n ≡ n = omega arith in rw e at (drop-decode n 0 (omega arith))
+
+-- a check that is accepted was not refused for the length, and accepts the records
+pub accepted-records : (xs : List ℕ) (used : ℕ) (c : Counts) → checkOf xs used ≡ accepted c
+    → (used % 8 ≡ 0) × (used ≤ length xs) × (checkRecords (tableOf xs (used / 8)) ≡ accepted c)
+unfolding checkOf
+accepted-records xs used c e = go (badLength xs used) refl e
+  where
+    go : (t : Bool) → badLength xs used ≡ t → (if t then refused 1 0 else checkRecords (tableOf xs (used / 8))) ≡ accepted c
+        → (used % 8 ≡ 0) × (used ≤ length xs) × (checkRecords (tableOf xs (used / 8)) ≡ accepted c)
+    go true q h = let z : _≡_ {A = ℕ} 0 1 = cc in absurd (omega arith)
+    go false q h =
+        let w = neither (not (eqb (used % 8) 0)) (ltb (length xs) used) q in
+        (eqb-true _ _ (not-false _ (w .0)), ltb-false _ _ (w .1), h)
+
+-- an accepted buffer is the encoding of its table, followed by the rest
+pub accepted-encoded : (xs : List ℕ) → Bytes xs → (used : ℕ) (c : Counts) → checkOf xs used ≡ accepted c → xs ≡ encode (tableOf xs (used / 8)) ++ drop used xs
+accepted-encoded xs bytes used c e =
+    let w = accepted-records xs used c e in
+    let h : 8 * (used / 8) ≡ used = omega (arith, w .0) in
+    rw h at (as-encoded xs bytes (used / 8) (omega (arith, w .0, w .1)))

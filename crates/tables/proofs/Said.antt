@@ -1,0 +1,61 @@
+-- The replies are one-to-one: no two values of an enum are said alike, so a promise has one reply.
+use Prim.Native.Nat.{ℕ}
+use mathlib.Core.Path.{_≡_, refl, sym, ap, _∙_}
+use lib.Dec.{eqb}
+use Rattle.majority.specs.If.{if_then_else_}
+use Rattle.majority.specs.Check.{Reply, accepted, refused}
+use Rattle.tables.specs.declared.Refusal.{Refusal}
+use Rattle.tables.specs.declared.Refusal.the-variants.{Length, Kind, Count, NotZero, Edge, Assignment}
+use Rattle.tables.specs.declared.Checked.{Checked}
+use Rattle.tables.specs.declared.Checked.the-variants.{Accepted, Refused}
+use Rattle.tables.specs.declared.Valued.{Valued}
+use Rattle.tables.specs.declared.Valued.the-variants.{Outputs, Refused as ValueRefused}
+use Rattle.tables.specs.declared.Reported.{Reported}
+use Rattle.tables.specs.declared.Reported.the-variants.{Whole, Refused as ReportRefused}
+use Rattle.tables.specs.Said.{refusalNumber, refusalRecord, saidCheck, saidValue, saidReport}
+
+-- the refusal of a number and a record
+refusalOf : ℕ → ℕ → Refusal
+refusalOf k i = if eqb k 1 then Length else if eqb k 2 then Kind i else if eqb k 3 then Count else if eqb k 4 then NotZero i else if eqb k 5 then Edge i else Assignment
+
+refusal-back : (r : Refusal) → refusalOf (refusalNumber r) (refusalRecord r) ≡ r
+unfolding refusalOf
+refusal-back Length = refl
+refusal-back (Kind i) = refl
+refusal-back Count = refl
+refusal-back (NotZero i) = refl
+refusal-back (Edge i) = refl
+refusal-back Assignment = refl
+
+-- a reply is told apart from another where what it makes of an accepted value and of a refusal can be undone
+module _ {A E : Type 0} (yes : A → E) (no : Refusal → E) (said : E → Reply A) where
+  back : Reply A → E
+  back (accepted x) = yes x
+  back (refused k i) = no (refusalOf k i)
+
+  once : ((e : E) → back (said e) ≡ e) → (a b : E) → said a ≡ said b → a ≡ b
+  once undone a b e = sym (undone a) ∙ ap back e ∙ undone b
+
+pub said-check-once : (a b : Checked) → saidCheck a ≡ saidCheck b → a ≡ b
+unfolding back
+said-check-once = once Accepted Refused saidCheck undone
+  where
+    undone : (r : Checked) → back Accepted Refused saidCheck (saidCheck r) ≡ r
+    undone (Accepted c) = refl
+    undone (Refused r) = ap Refused (refusal-back r)
+
+pub said-value-once : (a b : Valued) → saidValue a ≡ saidValue b → a ≡ b
+unfolding back
+said-value-once = once Outputs ValueRefused saidValue undone
+  where
+    undone : (r : Valued) → back Outputs ValueRefused saidValue (saidValue r) ≡ r
+    undone (Outputs v) = refl
+    undone (ValueRefused r) = ap ValueRefused (refusal-back r)
+
+pub said-report-once : (a b : Reported) → saidReport a ≡ saidReport b → a ≡ b
+unfolding back
+said-report-once = once Whole ReportRefused saidReport undone
+  where
+    undone : (r : Reported) → back Whole ReportRefused saidReport (saidReport r) ≡ r
+    undone (Whole w) = refl
+    undone (ReportRefused r) = ap ReportRefused (refusal-back r)

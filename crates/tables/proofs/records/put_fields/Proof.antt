@@ -1,0 +1,63 @@
+-- `records::put_fields` meets its contract: one store after another.
+use Rattle.tables.specs.Bytes.{putFields}
+use borrow.Author.Needs.{needs}
+use Rattle.tables.proofs.records.put_fields.Statement.{statement}
+use Rattle.tables.proofs.records.put_fields.Tie as tie
+
+mul-put : tie.Need-mul-put
+mul-put c = search needs
+
+put-requires : tie.Need-put-requires
+put-requires c κs = search needs
+
+mul-put-2 : tie.Need-mul-put-2
+mul-put-2 c = search needs
+
+add-put : tie.Need-add-put
+add-put c = search needs
+
+put-requires-2 : tie.Need-put-requires-2
+put-requires-2 c κs = search needs
+
+mul-put-3 : tie.Need-mul-put-3
+mul-put-3 c = search needs
+
+add-put-2 : tie.Need-add-put-2
+add-put-2 c = search needs
+
+put-requires-3 : tie.Need-put-requires-3
+put-requires-3 c κs = search needs
+
+mul-put-4 : tie.Need-mul-put-4
+mul-put-4 c = search needs
+
+add-put-3 : tie.Need-add-put-3
+add-put-3 c = search needs
+
+put-requires-4 : tie.Need-put-requires-4
+put-requires-4 c κs = search needs
+
+same-length : tie.Need-same-length
+same-length c = search needs
+
+returns : tie.Need-returns
+unfolding putFields
+returns c = cc
+
+pub put-fields-spec : {M : Type 1} → statement M
+put-fields-spec =
+    tie.close
+    (tie.spec
+    mul-put
+    put-requires
+    mul-put-2
+    add-put
+    put-requires-2
+    mul-put-3
+    add-put-2
+    put-requires-3
+    mul-put-4
+    add-put-3
+    put-requires-4
+    same-length
+    returns)

@@ -1,0 +1,43 @@
+-- Records in bytes (SPEC 2.1): four fields of 16 bits each, and no header.
+use Prim.Native.Nat.{ℕ, zero, suc, _+_, _*_, _/_, _%_}
+use mathlib.Core.List.{List, [], _∷_}
+use lib.ListN.{length}
+use lib.Dec.{ltb}
+use Rattle.majority.specs.If.{if_then_else_}
+use Rattle.majority.specs.Table.{recordOf}
+use Rattle.majority.specs.declared.Record.{Record}
+use Rattle.tables.specs.Field.{fieldAt, putField}
+
+-- record i of the bytes xs
+abbrev pub recordIn : List ℕ → ℕ → Record
+recordIn xs i = recordOf (fieldAt xs (4 * i)) (fieldAt xs (4 * i + 1)) (fieldAt xs (4 * i + 2)) (fieldAt xs (4 * i + 3))
+
+-- k records of the bytes xs, from record i on
+unfoldable pub decode : List ℕ → ℕ → ℕ → List Record
+decode xs i zero = []
+decode xs i (suc k) = recordIn xs i ∷ decode xs (suc i) k
+
+-- the first n records of the bytes xs
+abbrev pub tableOf : List ℕ → ℕ → List Record
+tableOf xs n = decode xs 0 n
+
+-- the bytes of a field, and of a record, before others
+abbrev pub fieldBytes : ℕ → List ℕ → List ℕ
+fieldBytes v rest = v % 256 ∷ v / 256 ∷ rest
+
+abbrev pub recordBytes : Record → List ℕ → List ℕ
+recordBytes r rest = fieldBytes (r .kind) (fieldBytes (r .e1) (fieldBytes (r .e2) (fieldBytes (r .e3) rest)))
+
+-- the bytes of a table
+unfoldable pub encode : List Record → List ℕ
+encode [] = []
+encode (r ∷ rs) = recordBytes r (encode rs)
+
+-- the bytes xs with r as their record i
+unfoldable pub putFields : List ℕ → ℕ → Record → List ℕ
+putFields xs i r =
+    putField (putField (putField (putField xs (4 * i) (r .kind)) (4 * i + 1) (r .e1)) (4 * i + 2) (r .e2)) (4 * i + 3) (r .e3)
+
+-- the same where xs has room for it, else xs
+unfoldable pub putRecord : List ℕ → ℕ → Record → List ℕ
+putRecord xs i r = if ltb i (length xs / 8) then putFields xs i r else xs

@@ -1,0 +1,16 @@
+-- Where a run of records of one kind ends.
+use Prim.Native.Nat.{ℕ, _-_}
+use mathlib.Core.Bool.{Bool, not}
+use mathlib.Core.List.{List}
+use lib.Dec.{eqb}
+use Rattle.majority.specs.Seek.{firstFrom}
+use Rattle.majority.specs.Table.{recordAt}
+use Rattle.majority.specs.declared.Record.{Record}
+
+-- record i is of another kind than k
+unfoldable pub otherKind : List Record → ℕ → ℕ → Bool
+otherKind rs k i = not (eqb (recordAt rs i .kind) k)
+
+-- of the records from `from` on, up to n, the first of another kind than k, or n
+unfoldable pub runEnd : List Record → ℕ → ℕ → ℕ → ℕ
+runEnd rs n k from = firstFrom (otherKind rs k) from (n - from)

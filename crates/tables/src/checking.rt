@@ -1,0 +1,137 @@
+// The check of refusals 2 to 5: one pass over the kinds, one over the fields.
+use crate::Checked;
+use crate::Refusal;
+use crate::fields::get;
+use crate::records::record_in;
+use majority::Counts;
+use majority::GATE;
+use majority::INPUT;
+use majority::MOST_GATES;
+use majority::MOST_INPUTS;
+use majority::MOST_OUTPUTS;
+use majority::OUTPUT;
+use majority::Record;
+use majority::node;
+ghost use mathlib.Core.Path.{_≡_};
+ghost use Prim.Native.Nat.{_+_, _-_, _*_, _≤_};
+ghost use lib.ListN.{length};
+ghost use Rattle.majority.specs.Check.{badCounts, notZero, past, badEdge, faultOf, checkFields, checkRecords};
+ghost use Rattle.tables.specs.Bytes.{tableOf};
+ghost use Rattle.tables.specs.Said.{faultNumber, saidCheck};
+ghost use Rattle.tables.specs.Runs.{runEnd};
+
+// The first record from `from` on, of n records, that is of another kind; n where there is none.
+fn run_end(s: &[u8], from: usize, n: usize, kind: u16) -> usize
+    requires { ⌜ (8 * n ≤ length (now s)) × (from ≤ n) ⌝ }
+    ensures { λ r. ⌜ r ≡ runEnd (tableOf (now (s .entry)) n) n kind from ⌝ }
+{
+    let mut i = from;
+    while i < n {
+        if get(s, 4 * i) != kind {
+            return i;
+        }
+        i += 1;
+    }
+    n
+}
+
+// A count is past its limit, or there is no output.
+fn bad_counts(c: Counts) -> bool
+    ensures { λ r. ⌜ r ≡ badCounts c ⌝ }
+{
+    (MOST_INPUTS < c.inputs) | (MOST_GATES < c.gates) | (MOST_OUTPUTS < c.outputs) | (c.outputs < 1)
+}
+
+// A field that must be zero is not.
+fn not_zero(r: Record) -> bool
+    ensures { λ b. ⌜ b ≡ notZero r ⌝ }
+{
+    if r.kind == INPUT {
+        return (r.e1 != 0) | (r.e2 != 0) | (r.e3 != 0);
+    }
+    if r.kind == GATE {
+        return false;
+    }
+    (r.e2 != 0) | (r.e3 != 0)
+}
+
+// The edge names a node past last.
+fn names_past(last: usize, edge: u16) -> bool
+    ensures { λ r. ⌜ r ≡ past last edge ⌝ }
+{
+    last < node(edge) as usize
+}
+
+// An edge of record i names a node it may not, in a table whose last node is last.
+fn bad_edge(last: usize, i: usize, r: Record) -> bool
+    ensures { λ b. ⌜ b ≡ badEdge last i r ⌝ }
+{
+    if r.kind == INPUT {
+        return false;
+    }
+    if r.kind == GATE {
+        return names_past(i, r.e1) | names_past(i, r.e2) | names_past(i, r.e3);
+    }
+    names_past(last, r.e1)
+}
+
+// What is wrong with a record.
+pub(crate) enum Fault {
+    Nothing,
+    NotZero,
+    Edge,
+}
+
+fn fault_of(last: usize, i: usize, r: Record) -> Fault
+    ensures { λ f. ⌜ faultNumber f ≡ faultOf last i r ⌝ }
+{
+    let filled = not_zero(r);
+    let astray = bad_edge(last, i, r);
+    if filled {
+        return Fault::NotZero;
+    }
+    if astray {
+        return Fault::Edge;
+    }
+    Fault::Nothing
+}
+
+// Refusals 4 and 5 of n records with these counts, which are within their limits.
+fn check_fields(s: &[u8], n: usize, counts: Counts) -> Checked
+    requires { ⌜ (8 * n ≤ length (now s)) × (counts .inputs ≤ 32) × (counts .gates ≤ 1024) ⌝ }
+    ensures { λ r. ⌜ saidCheck r ≡ checkFields counts (tableOf (now (s .entry)) n) ⌝ }
+{
+    let last = counts.inputs + counts.gates;
+    let mut i = 0;
+    while i < n {
+        match fault_of(last, i, record_in(s, i)) {
+            Fault::Nothing => {}
+            Fault::NotZero => return Checked::Refused(Refusal::NotZero(i)),
+            Fault::Edge => return Checked::Refused(Refusal::Edge(i)),
+        }
+        i += 1;
+    }
+    Checked::Accepted(counts)
+}
+
+// Refusals 2 to 5 of the n records of s.
+pub(crate) fn check_records(s: &[u8], n: usize) -> Checked
+    requires { ⌜ 8 * n ≤ length (now s) ⌝ }
+    ensures { λ r. ⌜ saidCheck r ≡ checkRecords (tableOf (now (s .entry)) n) ⌝ }
+{
+    let inputs = run_end(s, 0, n, INPUT);
+    let nodes = run_end(s, inputs, n, GATE);
+    let end = run_end(s, nodes, n, OUTPUT);
+    if end < n {
+        return Checked::Refused(Refusal::Kind(end));
+    }
+    let counts = Counts {
+        inputs,
+        gates: nodes - inputs,
+        outputs: n - nodes,
+    };
+    if bad_counts(counts) {
+        return Checked::Refused(Refusal::Count);
+    }
+    check_fields(s, n, counts)
+}

@@ -1,0 +1,28 @@
+// The 16-bit fields of a slice of bytes, low byte first.
+ghost use mathlib.Core.Path.{_≡_};
+ghost use Prim.Native.Nat.{_+_, _*_, _<_};
+ghost use lib.ListN.{length};
+ghost use Rattle.tables.specs.Field.{joined, fieldAt, putField};
+
+fn join(low: u8, high: u8) -> u16
+    ensures { λ r. ⌜ r ≡ joined low high ⌝ }
+{
+    (low as u16) + 256 * (high as u16)
+}
+
+// Field k.
+pub(crate) fn get(s: &[u8], k: usize) -> u16
+    requires { ⌜ 2 * k + 1 < length (now s) ⌝ }
+    ensures { λ r. ⌜ r ≡ fieldAt (now (s .entry)) k ⌝ }
+{
+    join(s[2 * k], s[2 * k + 1])
+}
+
+// Puts v as field k.
+pub(crate) fn put(s: &mut [u8], k: usize, v: u16)
+    requires { ⌜ 2 * k + 1 < length (now s) ⌝ }
+    ensures { λ _. ⌜ now (s .exit) ≡ putField (now (s .entry)) k v ⌝ }
+{
+    s[2 * k] = (v % 256) as u8;
+    s[2 * k + 1] = (v / 256) as u8;
+}

@@ -1,0 +1,104 @@
+// A table in lent bytes: its records, its check, and what it answers.
+mod checking;
+mod fields;
+mod levels;
+mod records;
+mod values;
+
+use checking::check_records;
+use levels::size;
+use majority::Counts;
+pub use records::put_record;
+pub use records::record_at;
+use values::value;
+ghost use mathlib.Core.Path.{_≡_};
+ghost use Rattle.tables.specs.Said.{refusalNumber, refusalRecord, saidCheck, saidValue, saidReport};
+ghost use Rattle.tables.specs.Calls.{checkOf, evaluateOf, reportOf};
+
+// Why a call is refused. A number is that of a record, counted from 0.
+pub enum Refusal {
+    Length,
+    Kind(usize),
+    Count,
+    NotZero(usize),
+    Edge(usize),
+    Assignment,
+}
+
+pub enum Checked {
+    Accepted(Counts),
+    Refused(Refusal),
+}
+
+pub enum Valued {
+    Outputs(u32),
+    Refused(Refusal),
+}
+
+// A table's size, the number of its gates, and its depth.
+pub struct Size {
+    pub gates: usize,
+    pub depth: usize,
+}
+
+pub enum Reported {
+    Whole(Size),
+    Refused(Refusal),
+}
+
+pub fn refusal_number(refusal: Refusal) -> u32
+    ensures { λ r. ⌜ r ≡ refusalNumber refusal ⌝ }
+{
+    match refusal {
+        Refusal::Length => 1,
+        Refusal::Kind(_) => 2,
+        Refusal::Count => 3,
+        Refusal::NotZero(_) => 4,
+        Refusal::Edge(_) => 5,
+        Refusal::Assignment => 6,
+    }
+}
+
+// The record that a refusal carries, 0 where it carries none.
+pub fn refusal_record(refusal: Refusal) -> usize
+    ensures { λ r. ⌜ r ≡ refusalRecord refusal ⌝ }
+{
+    match refusal {
+        Refusal::Length => 0,
+        Refusal::Kind(i) => i,
+        Refusal::Count => 0,
+        Refusal::NotZero(i) => i,
+        Refusal::Edge(i) => i,
+        Refusal::Assignment => 0,
+    }
+}
+
+// Says of the first used bytes of s whether they hold a table.
+pub fn check(s: &[u8], used: usize) -> Checked
+    ensures { λ r. ⌜ saidCheck r ≡ checkOf (now (s .entry)) used ⌝ }
+{
+    if (used % 8 != 0) | (s.len() < used) {
+        return Checked::Refused(Refusal::Length);
+    }
+    check_records(s, used / 8)
+}
+
+// The outputs' number of the table under an assignment: bit j is output j, counted from 0.
+pub fn evaluate(s: &[u8], used: usize, assignment: u32) -> Valued
+    ensures { λ r. ⌜ saidValue r ≡ evaluateOf (now (s .entry)) used assignment ⌝ }
+{
+    match check(s, used) {
+        Checked::Accepted(counts) => value(s, counts, assignment),
+        Checked::Refused(refusal) => Valued::Refused(refusal),
+    }
+}
+
+// The table's size and depth.
+pub fn report(s: &[u8], used: usize) -> Reported
+    ensures { λ r. ⌜ saidReport r ≡ reportOf (now (s .entry)) used ⌝ }
+{
+    match check(s, used) {
+        Checked::Accepted(counts) => Reported::Whole(size(s, counts)),
+        Checked::Refused(refusal) => Reported::Refused(refusal),
+    }
+}

@@ -1,0 +1,3 @@
+pub mod Appending
+pub mod Numbering
+pub mod Spelling
