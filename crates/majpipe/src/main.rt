@@ -1,0 +1,141 @@
+// Answers requests on standard input with replies on standard output, until the input ends: the library for every other language.
+mod input;
+mod reply;
+
+use input::Part;
+use input::Start;
+use input::Word;
+use reply::Reply;
+use tables::Checked;
+use tables::Reported;
+use tables::Valued;
+use text::Line;
+
+// The most bytes that a part may have.
+const PART: usize = 65536;
+
+// What became of a request: it was answered, there was none, or what was wrong.
+enum Outcome {
+    Answered,
+    End,
+    Cut,
+    Unknown(u8),
+    TooLong(u32),
+    Unwritten,
+}
+
+// What becomes of a request whose reply is this.
+fn sent(reply: Reply) -> Outcome {
+    if reply.write() {
+        return Outcome::Answered;
+    }
+    Outcome::Unwritten
+}
+
+// Operation 1: the counts.
+fn check(table: &[u8], used: usize) -> Outcome {
+    match tables::check(table, used) {
+        Checked::Accepted(c) => sent(
+            Reply::accepted()
+                .number(c.inputs)
+                .number(c.gates)
+                .number(c.outputs),
+        ),
+        Checked::Refused(r) => sent(Reply::refused(r).number(0).number(0).number(0)),
+    }
+}
+
+// Operation 2: the outputs' number under the assignment, which is read here.
+fn evaluate(table: &[u8], used: usize) -> Outcome {
+    let Word::Number(assignment) = input::read_number() else {
+        return Outcome::Cut;
+    };
+    match tables::evaluate(table, used, assignment) {
+        Valued::Outputs(v) => sent(Reply::accepted().number(v as usize)),
+        Valued::Refused(r) => sent(Reply::refused(r).number(0)),
+    }
+}
+
+// Operation 3: size and depth.
+fn report(table: &[u8], used: usize) -> Outcome {
+    match tables::report(table, used) {
+        Reported::Whole(s) => sent(Reply::accepted().number(s.gates).number(s.depth)),
+        Reported::Refused(r) => sent(Reply::refused(r).number(0).number(0)),
+    }
+}
+
+// Answers an operation on a table, which is lent exactly as the request has it, to read or to change.
+fn on_lent(operation: u8, table: &mut [u8], used: usize) -> Outcome {
+    match operation {
+        1 => check(table, used),
+        2 => evaluate(table, used),
+        3 => report(table, used),
+        _ => Outcome::Unknown(operation),
+    }
+}
+
+// Reads the used length and the table, with which each of these operations begins.
+fn on_table(operation: u8, buffer: &mut [u8]) -> Outcome {
+    let Word::Number(used) = input::read_number() else {
+        return Outcome::Cut;
+    };
+    match input::read_part(buffer) {
+        Part::Bytes(n) => on_lent(operation, &mut buffer[..n], used as usize),
+        Part::Cut => Outcome::Cut,
+        Part::TooLong(n) => Outcome::TooLong(n),
+    }
+}
+
+// Reads one request and answers it.
+fn answer(buffer: &mut [u8]) -> Outcome {
+    let Start::Operation(operation) = input::read_operation() else {
+        return Outcome::End;
+    };
+    match operation {
+        1..=3 => on_table(operation, buffer),
+        _ => Outcome::Unknown(operation),
+    }
+}
+
+// Says what was wrong with a request, which is the program's end.
+fn complain(wrong: Line) -> bool {
+    wrong.complain();
+    false
+}
+
+// Answers one request, and then whether to go on.
+fn goes_on(buffer: &mut [u8; PART]) -> bool {
+    let line = Line::empty().word(b"majpipe: ");
+    match answer(buffer) {
+        Outcome::Answered => true,
+        Outcome::End => false,
+        Outcome::Cut => complain(line.word(b"the input ended inside a request")),
+        Outcome::Unknown(operation) => complain(
+            line.word(b"there is no operation ")
+                .number(operation as u64),
+        ),
+        Outcome::TooLong(n) => complain(
+            line.word(b"a part of ")
+                .number(n as u64)
+                .word(b" bytes is longer than 65536, the most that is allowed"),
+        ),
+        Outcome::Unwritten => complain(line.word(b"a reply could not be written")),
+    }
+}
+
+// A proved loop has to end, and nothing says that the input does: it counts its turns down from a number that no run uses up.
+fn serve() {
+    let mut buffer = io::large_buffer();
+    let mut turns = u64::MAX;
+    while turns > 0 && goes_on(&mut buffer) {
+        turns -= 1;
+    }
+}
+
+fn main() {
+    if text::no_arguments(
+        b"majpipe: it takes no argument; call it as: majpipe < REQUESTS > REPLIES\n",
+    ) {
+        serve();
+    }
+}

@@ -1,0 +1,60 @@
+// A reply: its numbers are gathered and written at once.
+ghost use mathlib.Core.Path.{_≡_};
+ghost use mathlib.Core.List.{_++_};
+ghost use Prim.Native.Nat.{_%_};
+ghost use Rattle.text.specs.Shown.{shown, cut};
+ghost use Rattle.majpipe.specs.Numbers.{fourBytes};
+use libc::STDOUT_FILENO;
+use tables::Refusal;
+use text::Line;
+
+// The bytes so far, which a line holds as it would a text.
+pub struct Reply {
+    pub line: Line,
+}
+
+impl Reply {
+    // The three numbers that begin a reply: the refusal's number, or 0 for none, the record that it carries, and 0.
+    fn begun(number: usize, at: usize) -> Reply {
+        let nothing = Reply {
+            line: Line::empty(),
+        };
+        nothing.number(number).number(at).number(0)
+    }
+
+    // The beginning of a reply without a refusal.
+    pub fn accepted() -> Reply {
+        Reply::begun(0, 0)
+    }
+
+    // The beginning of a reply with a refusal.
+    pub fn refused(r: Refusal) -> Reply {
+        Reply::begun(
+            tables::refusal_number(r) as usize,
+            tables::refusal_record(r),
+        )
+    }
+
+    // The reply with a number after it, low byte first. No number of a reply has more than 32 bits: buffers have at most 65,536 bytes.
+    pub fn number(self, n: usize) -> Reply
+        ensures { λ r. ⌜ shown (r .line) ≡ cut (shown (self .line) ++ fourBytes n) ⌝ }
+    {
+        let line = self.line;
+        Reply {
+            line: line.word(&[low(n), low(n / 256), low(n / 65536), low(n / 16777216)]),
+        }
+    }
+
+    // Writes the reply, and answers whether all of it was written.
+    pub fn write(self) -> bool {
+        let line = self.line;
+        line.write(STDOUT_FILENO)
+    }
+}
+
+// The low byte.
+fn low(n: usize) -> u8
+    ensures { λ r. ⌜ r ≡ n % 256 ⌝ }
+{
+    (n % 256) as u8
+}
