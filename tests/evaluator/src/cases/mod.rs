@@ -1,0 +1,92 @@
+//! The case makers: every edge of the specification is made on purpose, in an order that the seed mixes.
+
+mod assignments;
+mod damage;
+mod deck;
+mod networks;
+mod plant;
+mod readings;
+mod scripts;
+mod steps;
+mod tables;
+mod translations;
+
+pub use deck::{Case, Dealer};
+
+use crate::random::Random;
+use crate::request::{Request, Table};
+use crate::step::Step;
+use crate::table::{record_bytes, Network};
+use deck::{kind, Kind};
+
+/// An operation's own kinds, and every kind of table with any other parts around it.
+fn kinds(operation: u8) -> Vec<Kind> {
+    let mut kinds = match operation {
+        2 => assignments::kinds(Request::Evaluate),
+        4 => steps::kinds(),
+        5 => scripts::kinds(),
+        6 => translations::kinds(),
+        7 => readings::evaluate_kinds(),
+        8 => readings::report_kinds(),
+        _ => vec![],
+    };
+    for &(name, weight, make) in tables::KINDS {
+        let maker = move |random: &mut Random, turn| {
+            let table = make(random, turn);
+            around(operation, random, table)
+        };
+        kinds.push(kind(name, weight, maker));
+    }
+    kinds
+}
+
+/// A request with this table and parts that may be right or wrong: what is wrong with the table comes first.
+fn around(operation: u8, random: &mut Random, table: Table) -> Request {
+    match operation {
+        1 => Request::Check(table),
+        2 => Request::Evaluate(table, any_assignment(random)),
+        3 => Request::Report(table),
+        4 => Request::Step(table, any_step(random)),
+        5 => {
+            let steps: Vec<_> = (0..random.below(4)).map(|_| any_step(random).fields()).collect();
+            let mut script = record_bytes(&steps);
+            if random.once_in(4) {
+                let more = random.between(1, 7);
+                script.extend(random.bytes(more));
+            }
+            Request::Script(table, script)
+        }
+        6 => {
+            let length = random.pick(&[0, 8, 100, 400, 3000]);
+            Request::Rm3(table, random.bytes(length))
+        }
+        7 => {
+            let assignment = any_assignment(random);
+            Request::ReadingEvaluate(readings::any(random, table), assignment)
+        }
+        _ => Request::ReadingReport(readings::any(random, table)),
+    }
+}
+
+/// No bit, a few low bits or many bits.
+fn any_assignment(random: &mut Random) -> u32 {
+    let bits = random.bits() as u32;
+    bits.checked_shr(random.pick(&[0, 26, 29, 32])).unwrap_or(0)
+}
+
+/// A step whose fields are often allowed for a small table.
+fn any_step(random: &mut Random) -> Step {
+    let rule = random.pick(&[0, 1, 2, 3, 4, 5, 6, 7, 8, 8, 8, 9, 65535]);
+    let gate = if rule == 8 { 0 } else { random.below(12) as u16 };
+    let a = if rule == 1 { random.between(1, 2) } else { 0 };
+    let b = if random.once_in(8) { 1 } else { 0 };
+    Step { rule, gate, a: a as u16, b }
+}
+
+/// A network's table in a buffer with `behind` bytes of garbage after it.
+fn lent(random: &mut Random, network: &Network, behind: usize) -> Table {
+    let mut buffer = network.bytes();
+    let used = buffer.len() as u32;
+    buffer.extend(random.bytes(behind));
+    Table { used, buffer }
+}

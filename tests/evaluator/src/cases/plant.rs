@@ -1,0 +1,137 @@
+//! Networks in which one rule finds its form, and changes that make it a near miss.
+
+use super::{lent, networks};
+use crate::random::Random;
+use crate::request::Request;
+use crate::step::Step;
+use crate::table::{Edge, Gate, Network};
+
+/// A network with a place for one rule: the step that is accepted there, and the nodes of the gates that make the
+/// rule's form, g last.
+pub struct Plant {
+    pub network: Network,
+    pub step: Step,
+    form: Vec<usize>,
+}
+
+impl Plant {
+    /// Any edge that the next gate may have.
+    fn edge(&self, random: &mut Random) -> Edge {
+        networks::edge(random, self.network.nodes())
+    }
+
+    /// Adds a gate of the form and gives it as an edge.
+    fn add(&mut self, gate: Gate) -> Edge {
+        let node = self.network.nodes();
+        self.network.gates.push(gate);
+        self.form.push(node);
+        Edge::plain(node)
+    }
+
+    /// Adds at times a gate or two that read anything.
+    fn pad(&mut self, random: &mut Random) {
+        let gates = self.network.gates.len() + random.pick(&[0, 0, 1, 2]);
+        networks::fill(random, &mut self.network, gates);
+    }
+
+    /// Adds the gates of the rule's form, g last.
+    fn add_form(&mut self, random: &mut Random, rule: u16) {
+        let [x, y, u, v] = [0; 4].map(|_| self.edge(random));
+        match rule {
+            2 => {
+                let second = x.inverted_if(random.once_in(2));
+                self.add([x, second, y]);
+            }
+            3 => {
+                let h = self.add([y, u, v]);
+                self.pad(random);
+                let x = self.edge(random);
+                self.add([x, u, h]);
+            }
+            4 => {
+                let h = self.add([u, v, y]);
+                self.pad(random);
+                let [x, y] = [0; 2].map(|_| self.edge(random));
+                self.add([x, y, h]);
+            }
+            5 => {
+                let p = self.add([x, y, u]);
+                self.pad(random);
+                let q = if random.once_in(4) { p } else { self.add([x, y, v]) };
+                self.pad(random);
+                let z = self.edge(random);
+                self.add([p, q, z]);
+            }
+            7 => {
+                let a = self.add([x, y, u]);
+                self.pad(random);
+                self.add([x, y, u]);
+                self.step.a = a.node as u16;
+            }
+            _ => {
+                self.add([x, y, u]);
+            }
+        }
+    }
+
+    pub fn g(&self) -> usize {
+        self.form[self.form.len() - 1]
+    }
+
+    /// Adds gates and outputs of which about half the edges name g, in both ways.
+    fn add_readers(&mut self, random: &mut Random, outputs: usize) {
+        let g = self.g();
+        let reading = |random: &mut Random, edge: Edge| match random.once_in(2) {
+            true => Edge { node: g, inverted: random.once_in(2) },
+            false => edge,
+        };
+        for _ in 0..random.below(4) {
+            let gate = networks::gate(random, self.network.nodes());
+            self.network.gates.push(gate.map(|edge| reading(random, edge)));
+        }
+        for _ in 0..outputs {
+            let edge = self.edge(random);
+            self.network.outputs.push(reading(random, edge));
+        }
+    }
+
+    pub fn request(self, random: &mut Random, behind: usize) -> Request {
+        Request::Step(lent(random, &self.network, behind), self.step)
+    }
+
+    /// Changes one edge of one gate of the form, by the variant's number: a near miss.
+    pub fn spoil(&mut self, random: &mut Random, variant: usize) {
+        let node = self.form[variant % self.form.len()];
+        let place = variant / self.form.len() % 3;
+        let any = networks::edge(random, node);
+        let input = random.between(1, self.network.inputs);
+        let gate = &mut self.network.gates[node - self.network.inputs - 1];
+        match variant / self.form.len() / 3 % 5 {
+            0 => gate[place].inverted = !gate[place].inverted,
+            1 => gate.swap(place, (place + 1) % 3),
+            2 => gate[place].node = input,
+            3 => gate[place].node = 0,
+            _ => gate[place] = any,
+        }
+    }
+}
+
+/// A plant for the rule with exactly `gates` gates, or, where none are asked for, a few.
+pub fn plant(random: &mut Random, rule: u16, gates: Option<usize>) -> Plant {
+    let (inputs, outputs) = (random.between(1, 5), random.between(1, 4));
+    let before = gates.map_or(random.below(5), |gates| random.below(gates - 16));
+    let network = networks::sized(random, inputs, before, 0);
+    let step = Step { rule, gate: 0, a: 0, b: 0 };
+    let mut plant = Plant { network, step, form: Vec::new() };
+    plant.pad(random);
+    plant.add_form(random, rule);
+    if rule != 8 {
+        plant.step.gate = plant.g() as u16;
+    }
+    if rule == 1 {
+        plant.step.a = random.between(1, 2) as u16;
+    }
+    plant.add_readers(random, outputs);
+    networks::fill(random, &mut plant.network, gates.unwrap_or(0));
+    plant
+}

@@ -1,0 +1,97 @@
+//! RM3: all 27 patterns, out buffers to the byte, and the largest translation.
+
+use super::deck::{kind, Kind};
+use super::{lent, networks};
+use crate::random::Random;
+use crate::request::Request;
+use crate::rm3::translate;
+use crate::table::{Edge, Network, MOST_GATES, MOST_INPUTS, MOST_OUTPUTS};
+
+/// The network's RM3 request with an out buffer of `room` bytes more (or fewer) than its RM3 table.
+fn request(random: &mut Random, network: &Network, room: isize) -> Request {
+    let length = translate(network).bytes().len() as isize + room;
+    let behind = random.below(20);
+    let table = lent(random, network, behind);
+    Request::Rm3(table, random.bytes(length.max(0) as usize))
+}
+
+fn some_room(random: &mut Random) -> isize {
+    random.pick(&[0, 0, 1, 9, 40])
+}
+
+/// Adds a gate whose edges have the classes of this pattern (0 to 26), on any nodes.
+fn add_pattern(random: &mut Random, network: &mut Network, pattern: usize) {
+    let bound = network.nodes();
+    let gate = [pattern / 9, pattern / 3, pattern].map(|class| match class % 3 {
+        0 => Edge { node: 0, inverted: random.once_in(2) },
+        class => Edge { node: random.between(1, bound - 1), inverted: class == 2 },
+    });
+    network.gates.push(gate);
+}
+
+fn one_pattern(random: &mut Random, turn: usize) -> Request {
+    let (inputs, gates) = (random.between(1, 4), random.below(3));
+    let mut network = networks::sized(random, inputs, gates, 0);
+    add_pattern(random, &mut network, turn % 27);
+    let last = network.nodes() - 1;
+    network.outputs = vec![Edge { node: last, inverted: random.once_in(3) }];
+    let room = some_room(random);
+    request(random, &network, room)
+}
+
+/// Each pattern once, in a mixed order, with an output on each gate.
+fn all_patterns(random: &mut Random, _turn: usize) -> Request {
+    let inputs = random.between(1, 6);
+    let mut network = networks::sized(random, inputs, 0, 0);
+    let mut patterns: Vec<usize> = (0..27).collect();
+    random.shuffle(&mut patterns);
+    patterns.into_iter().for_each(|pattern| add_pattern(random, &mut network, pattern));
+    let nodes = inputs + 1..network.nodes();
+    network.outputs = nodes.map(|node| Edge { node, inverted: random.once_in(4) }).collect();
+    let room = some_room(random);
+    request(random, &network, room)
+}
+
+/// Out buffers exactly full, one byte or one record short, empty, and larger.
+fn room(random: &mut Random, turn: usize) -> Request {
+    let network = networks::small(random);
+    request(random, &network, [0, -1, 1, -8, 7, -9, 8, -100_000, 300][turn % 9])
+}
+
+/// Outputs on the same few nodes, constants among them, plain and inverted.
+fn outputs(random: &mut Random, _turn: usize) -> Request {
+    let inputs = random.between(0, 2);
+    let mut network = networks::sized(random, inputs, 2, 0);
+    let count = random.between(2, MOST_OUTPUTS);
+    let nodes = network.nodes();
+    network.outputs = (0..count).map(|_| Edge { node: random.below(nodes), inverted: random.once_in(2) }).collect();
+    let room = some_room(random);
+    request(random, &network, room)
+}
+
+/// 1,024 gates of three inverted edges and 32 inverted outputs: three operations a gate and one an output.
+fn largest(random: &mut Random, turn: usize) -> Request {
+    let mut network = networks::sized(random, MOST_INPUTS, 0, 0);
+    (0..MOST_GATES).for_each(|_| add_pattern(random, &mut network, 26));
+    let nodes = network.nodes();
+    let inverted = |node| Edge { node, inverted: true };
+    network.outputs = (0..MOST_OUTPUTS).map(|_| inverted(random.between(1, nodes - 1))).collect();
+    request(random, &network, [0, -1, 500][turn % 3])
+}
+
+fn any_table(random: &mut Random, _turn: usize) -> Request {
+    let network = networks::any(random);
+    let room = some_room(random);
+    request(random, &network, room)
+}
+
+pub fn kinds() -> Vec<Kind> {
+    vec![
+        kind("one RM3 pattern", 14, one_pattern),
+        kind("all RM3 patterns", 5, all_patterns),
+        kind("RM3 table and its room", 12, room),
+        kind("RM3 outputs", 5, outputs),
+        kind("largest RM3 table", 1, largest),
+        kind("RM3 of any table", 4, any_table),
+    ]
+}

@@ -1,0 +1,77 @@
+//! The comparison of a reply with the evaluator's own answer, and the report of a difference.
+
+use crate::answer::{number_names, Answer};
+use crate::random::Random;
+use crate::request::{Request, CALLS};
+use crate::rm3::Rm3;
+use crate::value::{depth, outputs};
+
+/// Bytes in hex, the first ones of a long part only.
+fn hex(bytes: &[u8]) -> String {
+    const SHOWN: usize = 96;
+    let groups = bytes[..bytes.len().min(SHOWN)].chunks(8);
+    let shown = groups.map(|group| group.iter().map(|byte| format!("{byte:02x}")).collect::<String>());
+    let dots = if bytes.len() > SHOWN { " ..." } else { "" };
+    format!("{}{dots} ({} bytes)", shown.collect::<Vec<_>>().join(" "), bytes.len())
+}
+
+/// The request's parts in hex, one a line.
+pub fn describe(request: &Request) -> String {
+    let operation = request.operation();
+    let mut text = format!("operation {operation} ({})\n", CALLS[usize::from(operation)]);
+    for (name, bytes) in request.parts() {
+        text += &format!("  {name}: {}\n", hex(&bytes));
+    }
+    text
+}
+
+/// One line for each number that differs, and one for the bytes; none where the reply is the answer.
+pub fn differences(operation: u8, answer: &Answer, reply: &[u8]) -> Vec<String> {
+    let expected = answer.bytes();
+    let names = ["refusal", "record", "third number"].iter().chain(number_names(operation));
+    let head = 4 * names.clone().count();
+    let number = |bytes: &[u8], at: usize| u32::from_le_bytes([bytes[at], bytes[at + 1], bytes[at + 2], bytes[at + 3]]);
+    let mut lines = Vec::new();
+    for (place, name) in names.enumerate() {
+        let (wanted, got) = (number(&expected, 4 * place), number(reply, 4 * place));
+        if wanted != got {
+            lines.push(format!("{name}: expected {wanted}, got {got}"));
+        }
+    }
+    let differ = |at: &usize| expected[*at] != reply[*at];
+    if let Some(at) = (head..expected.len()).find(differ) {
+        let whole = (head..expected.len()).filter(differ).count();
+        let from = head + (at - head) / 8 * 8;
+        lines.push(format!("{whole} bytes of the buffer differ, first byte {}", at - head));
+        lines.push(format!("  from byte {} expected {}", from - head, hex(&expected[from..])));
+        lines.push(format!("  from byte {} got      {}", from - head, hex(&reply[from..])));
+    }
+    lines
+}
+
+/// What is wrong with the RM3 bytes of a reply that was as expected: its worth, its count of operations, its depth.
+pub fn rm3_faults(request: &Request, answer: &Answer, random: &mut Random) -> Option<String> {
+    let Request::Rm3(table, _) = request else {
+        return None;
+    };
+    let network = table.network().ok().filter(|_| answer.refusal.is_none())?;
+    let Some(rm3) = Rm3::read(&answer.bytes[..answer.numbers[0] as usize]) else {
+        return Some("the RM3 bytes are no RM3 table".to_string());
+    };
+    let most = 3 * network.gates.len() + network.outputs.len();
+    if rm3.operations.len() > most {
+        return Some(format!("{} RM3 operations, at most {most} allowed", rm3.operations.len()));
+    }
+    let deepest = 2 * depth(&network) + 1;
+    if rm3.depth() > deepest {
+        return Some(format!("RM3 depth {}, at most {deepest} allowed", rm3.depth()));
+    }
+    let every = 1u64 << network.inputs;
+    let assignments: Vec<u32> = match network.inputs {
+        0..=10 => (0..every as u32).collect(),
+        _ => (0..24).map(|_| (random.bits() % every) as u32).collect(),
+    };
+    let wrong = |&&assignment: &&u32| outputs(&network, assignment) != rm3.values(assignment);
+    let assignment = assignments.iter().find(wrong)?;
+    Some(format!("the RM3 network is worth something else under assignment {assignment:#x}"))
+}

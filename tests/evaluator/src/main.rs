@@ -1,0 +1,137 @@
+//! An independent evaluator: it asks majpipe requests and compares every number and byte of every reply with
+//! its own answer, worked out from the specification (docs/SPEC.md) alone.
+
+mod answer;
+mod cases;
+mod counts;
+mod difference;
+mod pipe;
+mod random;
+mod reading;
+mod request;
+mod rm3;
+mod run;
+mod script;
+#[cfg(test)]
+mod sheet;
+mod step;
+mod table;
+#[cfg(test)]
+mod tests;
+mod value;
+
+use counts::Counts;
+use pipe::Pipe;
+use run::{run, Settings, ENOUGH};
+use std::process::ExitCode;
+
+const HELP: &str = "\
+evaluator [--seed S] [--count N] [--ops 1,2,3,...] [--save FILE] -- PROGRAM [ARGS..]
+
+Starts PROGRAM (majpipe, perhaps behind an emulator) and compares N of its replies with its own answers.
+  --seed S     the run's seed (default 1); the same seed, count and operations give the same run
+  --count N    how many requests (default 4000)
+  --ops LIST   the operations to ask, 1 to 8 (default all)
+  --save FILE  where to write the bytes of the request that met a difference, for PROGRAM's standard input
+
+How the count is spread: of 20 requests operations 1 to 8 get 3, 2, 1, 7, 2, 3, 1 and 1 (those listed keep their
+shares). Each operation deals its kinds of cases from a shuffled deck, so that every kind comes once before one
+comes again beyond its weight, and a kind goes through its variants in turn. Every 100th request of an operation is a
+rare one: a part of 65,536 bytes, or for operation 5 every other time a script of 5,000 to 8,192 steps.
+With 2000 requests or more a run fails also when a refusal or a rule of its operations was never met.
+The exit status is 0 where all replies are as expected, 1 where not, and 2 for bad usage.
+";
+
+struct Arguments {
+    settings: Settings,
+    save: Option<String>,
+    command: Vec<String>,
+}
+
+/// The arguments, or what is wrong with them; none where help is wanted.
+fn arguments(mut given: impl Iterator<Item = String>) -> Result<Option<Arguments>, String> {
+    let mut settings = Settings { seed: 1, count: 4000, operations: (1..=8).collect() };
+    let mut save = None;
+    loop {
+        let option = given.next().ok_or("no program: give -- PROGRAM [ARGS..]")?;
+        if option == "--help" {
+            return Ok(None);
+        }
+        if option == "--" {
+            break;
+        }
+        let value = given.next().ok_or(format!("{option} wants a value"))?;
+        let number = || value.parse().map_err(|_| format!("{option}: {value} is no number"));
+        match option.as_str() {
+            "--seed" => settings.seed = number()?,
+            "--count" if value == "0" => return Err("--count wants 1 or more".to_string()),
+            "--count" => settings.count = number()? as usize,
+            "--ops" => settings.operations = operations(&value)?,
+            "--save" => save = Some(value),
+            _ => return Err(format!("unknown option {option}")),
+        }
+    }
+    let command: Vec<String> = given.collect();
+    match command.is_empty() {
+        true => Err("no program after --".to_string()),
+        false => Ok(Some(Arguments { settings, save, command })),
+    }
+}
+
+/// The listed operations in rising order, each once.
+fn operations(list: &str) -> Result<Vec<u8>, String> {
+    let numbers = list.split(',').map(|word| word.parse().ok().filter(|number| (1..=8).contains(number)));
+    let numbers: Option<Vec<u8>> = numbers.collect();
+    let mut numbers = numbers.ok_or(format!("--ops: {list} is no list of operations 1 to 8"))?;
+    numbers.sort_unstable();
+    numbers.dedup();
+    Ok(numbers)
+}
+
+/// Runs against the program; what went wrong comes back as the lines to print.
+fn check(arguments: &Arguments, counts: &mut Counts) -> Result<(), String> {
+    let settings = &arguments.settings;
+    let mut pipe = Pipe::start(&arguments.command)?;
+    let outcome = run(settings, counts, &mut |request, length| pipe.ask(request.bytes(), length));
+    if let Err(difference) = outcome {
+        let mut text = difference.text;
+        if let Some(file) = &arguments.save {
+            let saved = std::fs::write(file, difference.request.bytes());
+            text += &match saved {
+                Ok(()) => format!("the request's bytes are in {file}"),
+                Err(error) => {
+                    format!("the request's bytes could not be written to {file}: {error}")
+                }
+            };
+        }
+        return Err(text);
+    }
+    pipe.finish()?;
+    println!("seed {}\n{}", settings.seed, counts.report());
+    let never = if settings.count < ENOUGH { vec![] } else { counts.never_met(&settings.operations) };
+    match never.is_empty() {
+        true => Ok(()),
+        false => Err(never.join("\n")),
+    }
+}
+
+fn main() -> ExitCode {
+    let arguments = match arguments(std::env::args().skip(1)) {
+        Ok(Some(arguments)) => arguments,
+        Ok(None) => {
+            print!("{HELP}");
+            return ExitCode::SUCCESS;
+        }
+        Err(fault) => {
+            eprintln!("evaluator: {fault}");
+            return ExitCode::from(2);
+        }
+    };
+    let mut counts = Counts::default();
+    let outcome = check(&arguments, &mut counts);
+    if let Err(text) = &outcome {
+        println!("{}", text.trim_end());
+    }
+    println!("{} passed, {} failed", counts.passed(), u8::from(outcome.is_err()));
+    ExitCode::from(u8::from(outcome.is_err()))
+}

@@ -1,0 +1,109 @@
+//! A request as it goes through the pipe.
+
+use crate::reading::Reading;
+use crate::step::Step;
+use crate::table::{read, Network, Refusal};
+
+/// A lent buffer and the length of it that is said to be used.
+#[derive(Clone, Debug)]
+pub struct Table {
+    pub used: u32,
+    pub buffer: Vec<u8>,
+}
+
+impl Table {
+    pub fn network(&self) -> Result<Network, Refusal> {
+        read(&self.buffer, self.used, None)
+    }
+}
+
+#[derive(Clone, Debug)]
+pub enum Request {
+    Check(Table),
+    Evaluate(Table, u32),
+    Report(Table),
+    Step(Table, Step),
+    Script(Table, Vec<u8>),
+    Rm3(Table, Vec<u8>),
+    ReadingEvaluate(Reading, u32),
+    ReadingReport(Reading),
+}
+
+/// The calls by operation number; 0 is none.
+pub const CALLS: [&str; 9] = [
+    "none",
+    "check",
+    "evaluate",
+    "report",
+    "step",
+    "script",
+    "RM3 table",
+    "evaluate through a reading",
+    "report through a reading",
+];
+
+/// A named piece of a request, as its bytes.
+pub type Part = (&'static str, Vec<u8>);
+
+fn number(name: &'static str, value: u32) -> Part {
+    (name, value.to_le_bytes().to_vec())
+}
+
+fn lent(name: &'static str, bytes: &[u8]) -> [Part; 2] {
+    [number("length", bytes.len() as u32), (name, bytes.to_vec())]
+}
+
+impl Request {
+    pub fn operation(&self) -> u8 {
+        match self {
+            Request::Check(..) => 1,
+            Request::Evaluate(..) => 2,
+            Request::Report(..) => 3,
+            Request::Step(..) => 4,
+            Request::Script(..) => 5,
+            Request::Rm3(..) => 6,
+            Request::ReadingEvaluate(..) => 7,
+            Request::ReadingReport(..) => 8,
+        }
+    }
+
+    /// Everything after the operation's byte, in the order it is sent.
+    pub fn parts(&self) -> Vec<Part> {
+        let mut parts = Vec::new();
+        match self {
+            Request::Check(table)
+            | Request::Report(table)
+            | Request::Evaluate(table, _)
+            | Request::Step(table, _)
+            | Request::Script(table, _)
+            | Request::Rm3(table, _) => {
+                parts.push(number("used", table.used));
+                parts.extend(lent("table", &table.buffer));
+            }
+            Request::ReadingEvaluate(reading, _) | Request::ReadingReport(reading) => {
+                let names = ["inputs", "gates", "outputs"];
+                let counts = names.into_iter().zip(reading.counts);
+                parts.extend(counts.map(|(name, count)| number(name, count)));
+                parts.extend(lent("records", &reading.records));
+            }
+        }
+        match self {
+            Request::Evaluate(_, assignment) | Request::ReadingEvaluate(_, assignment) => {
+                parts.push(number("assignment", *assignment));
+            }
+            Request::Step(_, step) => {
+                let fields = ["rule", "gate", "a", "b"].into_iter().zip(step.fields());
+                parts.extend(fields.map(|(name, field)| (name, field.to_le_bytes().to_vec())));
+            }
+            Request::Script(_, script) => parts.extend(lent("script", script)),
+            Request::Rm3(_, out) => parts.extend(lent("out", out)),
+            Request::Check(_) | Request::Report(_) | Request::ReadingReport(_) => {}
+        }
+        parts
+    }
+
+    pub fn bytes(&self) -> Vec<u8> {
+        let parts = self.parts().into_iter().flat_map(|part| part.1);
+        [self.operation()].into_iter().chain(parts).collect()
+    }
+}

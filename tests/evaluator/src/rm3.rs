@@ -1,0 +1,111 @@
+//! RM3: the translation of a network, and a reader and evaluator of RM3 bytes.
+
+use crate::table::{record_bytes, records, Edge, Gate, Network};
+
+/// Operands: 0 false, 1 true, then the inputs from 2, then the operations.
+#[derive(Clone, PartialEq, Eq, Debug)]
+pub struct Rm3 {
+    pub inputs: usize,
+    pub operations: Vec<[usize; 3]>,
+    pub outputs: Vec<usize>,
+}
+
+#[derive(Clone, Copy, PartialEq, Eq, Debug)]
+pub enum Class {
+    Constant,
+    Plain,
+    Inverted,
+}
+
+pub fn class(edge: Edge) -> Class {
+    match (edge.node, edge.inverted) {
+        (0, _) => Class::Constant,
+        (_, false) => Class::Plain,
+        (_, true) => Class::Inverted,
+    }
+}
+
+impl Rm3 {
+    /// Adds an operation and gives its operand number.
+    fn add(&mut self, operation: [usize; 3]) -> usize {
+        self.operations.push(operation);
+        self.inputs + 1 + self.operations.len()
+    }
+
+    /// Adds the helpers and the operation of one gate; `operand` holds the operand of each node below it.
+    fn add_gate(&mut self, gate: &Gate, operand: &[usize]) -> usize {
+        let first = |wanted| gate.iter().position(|&edge| class(edge) == wanted);
+        let middle = first(Class::Inverted).or(first(Class::Constant)).unwrap_or(1);
+        let mut operands = [0; 3];
+        for (place, &edge) in gate.iter().enumerate() {
+            let node = operand[edge.node];
+            operands[place] = match (class(edge), place == middle) {
+                (Class::Constant, is_middle) => usize::from(edge.inverted != is_middle),
+                (Class::Plain, false) | (Class::Inverted, true) => node,
+                (Class::Plain, true) | (Class::Inverted, false) => self.add([0, node, 1]),
+            };
+        }
+        let others = [[1, 2], [0, 2], [0, 1]][middle];
+        self.add([operands[others[0]], operands[middle], operands[others[1]]])
+    }
+
+    /// The RM3 network in these bytes, or none where they are no RM3 table.
+    pub fn read(bytes: &[u8]) -> Option<Rm3> {
+        let records = records(bytes);
+        let of_kind = |kind: u16| records.iter().filter(move |record| record[0] == kind);
+        let inputs = of_kind(1).count();
+        let operations: Vec<_> = of_kind(4).map(|&[_, x, y, z]| [x, y, z].map(usize::from)).collect();
+        let outputs: Vec<_> = of_kind(3).map(|record| usize::from(record[1])).collect();
+        let network = Rm3 { inputs, operations, outputs };
+        let lower = |(at, operation): (usize, &[usize; 3])| operation.iter().all(|&operand| operand < inputs + 2 + at);
+        let bound = inputs + 2 + network.operations.len();
+        let sound =
+            network.operations.iter().enumerate().all(lower) && network.outputs.iter().all(|&operand| operand < bound);
+        (sound && network.bytes() == bytes).then_some(network)
+    }
+
+    pub fn bytes(&self) -> Vec<u8> {
+        let operations = self.operations.iter().map(|&[x, y, z]| [4, x as u16, y as u16, z as u16]);
+        let outputs = self.outputs.iter().map(|&operand| [3, operand as u16, 0, 0]);
+        let records: Vec<_> = vec![[1, 0, 0, 0]; self.inputs].into_iter().chain(operations).chain(outputs).collect();
+        record_bytes(&records)
+    }
+
+    /// The outputs' number under an assignment: an operation is worth the majority of x, not y, z.
+    pub fn values(&self, assignment: u32) -> u32 {
+        let inputs = (0..self.inputs).map(|place| (assignment >> place) & 1 == 1);
+        let mut values: Vec<bool> = [false, true].into_iter().chain(inputs).collect();
+        for &[x, y, z] in &self.operations {
+            let three = [values[x], !values[y], values[z]];
+            values.push(three.into_iter().filter(|&value| value).count() >= 2);
+        }
+        let bits = self.outputs.iter().enumerate();
+        bits.map(|(place, &operand)| u32::from(values[operand]) << place).sum()
+    }
+
+    pub fn depth(&self) -> u32 {
+        let mut levels = vec![0; self.inputs + 2];
+        for operation in &self.operations {
+            levels.push(1 + operation.map(|operand| levels[operand]).into_iter().max().unwrap_or(0));
+        }
+        levels.into_iter().max().unwrap_or(0)
+    }
+}
+
+pub fn translate(network: &Network) -> Rm3 {
+    let mut rm3 = Rm3 { inputs: network.inputs, operations: Vec::new(), outputs: Vec::new() };
+    let mut operand: Vec<usize> = [0].into_iter().chain(2..network.inputs + 2).collect();
+    for gate in &network.gates {
+        let own = rm3.add_gate(gate, &operand);
+        operand.push(own);
+    }
+    for &edge in &network.outputs {
+        let own = match class(edge) {
+            Class::Constant => usize::from(edge.inverted),
+            Class::Plain => operand[edge.node],
+            Class::Inverted => rm3.add([0, operand[edge.node], 1]),
+        };
+        rm3.outputs.push(own);
+    }
+    rm3
+}

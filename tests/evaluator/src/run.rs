@@ -1,0 +1,50 @@
+//! One run: cases dealt by the seed, each asked and compared until the first difference.
+
+use crate::answer::answer;
+use crate::cases::{Case, Dealer};
+use crate::counts::Counts;
+use crate::difference::{describe, differences, rm3_faults};
+use crate::random::Random;
+use crate::request::Request;
+
+pub struct Settings {
+    pub seed: u64,
+    pub count: usize,
+    pub operations: Vec<u8>,
+}
+
+/// The first difference of a run: its report and the request that met it.
+pub struct Difference {
+    pub text: String,
+    pub request: Request,
+}
+
+/// From this many requests on, a run must meet every refusal and rule that its operations can meet.
+pub const ENOUGH: usize = 2000;
+
+/// How a run asks: the request and the length of its reply, which comes back whole or as what went wrong.
+pub type Ask<'a> = &'a mut dyn FnMut(&Request, usize) -> Result<Vec<u8>, String>;
+
+/// Asks all requests of a run until the first difference.
+pub fn run(settings: &Settings, counts: &mut Counts, ask: Ask) -> Result<(), Box<Difference>> {
+    let mut dealer = Dealer::new(settings.seed, &settings.operations);
+    let mut random = Random::new(!settings.seed);
+    for number in 1..=settings.count {
+        let Case { kind, request } = dealer.deal();
+        let expected = answer(&request);
+        let mut lines = match ask(&request, expected.bytes().len()) {
+            Ok(reply) => differences(request.operation(), &expected, &reply),
+            Err(trouble) => vec![trouble],
+        };
+        if lines.is_empty() {
+            lines.extend(rm3_faults(&request, &expected, &mut random));
+        }
+        if !lines.is_empty() {
+            let place = format!("difference: seed {}, case {number}, {kind}", settings.seed);
+            let text = format!("{place}\n{}{}\n", describe(&request), lines.join("\n"));
+            return Err(Box::new(Difference { text, request }));
+        }
+        counts.note(&request, &expected);
+    }
+    Ok(())
+}

@@ -1,0 +1,185 @@
+//! The sheet of small tables, P1 to P10, and the cases beside it, with the specification's literal numbers.
+
+use crate::answer::{answer, Answer};
+use crate::request::{Request, Table};
+use crate::rm3::{translate, Rm3};
+use crate::script::{run, Progress};
+use crate::step::{apply, Step};
+use crate::table::{read, record_bytes, Edge, Network, Record, Refusal};
+use crate::value::{depth, evaluate, outputs, size};
+
+pub fn network<const M: usize>(inputs: usize, gates: [[u16; 3]; M], outputs: &[u16]) -> Network {
+    let gates = gates.iter().map(|gate| gate.map(Edge::of)).collect();
+    Network { inputs, gates, outputs: outputs.iter().map(|&edge| Edge::of(edge)).collect() }
+}
+
+fn table(records: &[Record]) -> Table {
+    let buffer = record_bytes(records);
+    Table { used: buffer.len() as u32, buffer }
+}
+
+fn check(records: &[Record]) -> Result<Network, (u32, u32)> {
+    table(records).network().map_err(|refusal| (refusal.number, refusal.record))
+}
+
+fn step(network: &Network, rule: u16, gate: u16) -> Result<Network, u32> {
+    let result = apply(network, Step { rule, gate, a: 0, b: 0 }, 65_536);
+    result.map_err(|refusal| refusal.number)
+}
+
+fn values(network: &Network) -> Vec<u32> {
+    (0..1 << network.inputs).map(|assignment| outputs(network, assignment)).collect()
+}
+
+fn rm3(inputs: usize, operations: &[[usize; 3]], outputs: &[usize]) -> Rm3 {
+    Rm3 { inputs, operations: operations.to_vec(), outputs: outputs.to_vec() }
+}
+
+fn adder() -> Network {
+    network(3, [[2, 4, 6], [2, 4, 7], [9, 10, 6]], &[12, 8])
+}
+
+#[test]
+fn p1() {
+    let p1 = network(2, [[0, 2, 4]], &[6]);
+    assert_eq!(values(&p1), [0, 0, 0, 1]);
+    assert_eq!(translate(&p1), rm3(2, &[[2, 1, 3]], &[4]));
+    let records = [[1, 0, 0, 0], [1, 0, 0, 0], [2, 0, 2, 4], [3, 6, 0, 0]];
+    assert_eq!(check(&records), Ok(p1));
+}
+
+#[test]
+fn p2_and_p3() {
+    let p2 = network(3, [[2, 4, 6]], &[8]);
+    assert_eq!(values(&p2), [0, 0, 0, 1, 0, 1, 1, 1]);
+    assert_eq!(translate(&p2), rm3(3, &[[0, 3, 1], [2, 5, 4]], &[6]));
+    let p3 = network(3, [[3, 5, 7]], &[8]);
+    assert_eq!(translate(&p3), rm3(3, &[[0, 3, 1], [0, 4, 1], [5, 2, 6]], &[7]));
+}
+
+#[test]
+fn p4_and_p5() {
+    let p4 = network(1, [[2, 2, 0]], &[5]);
+    assert_eq!(translate(&p4), rm3(1, &[[2, 1, 2], [0, 3, 1]], &[4]));
+    let after = step(&p4, 2, 2).unwrap();
+    assert_eq!(after, network(1, [[2, 2, 0]], &[3]));
+    let swept = step(&after, 8, 0).unwrap();
+    assert_eq!(swept, network(1, [], &[3]));
+    assert_eq!(translate(&swept), rm3(1, &[[0, 2, 1]], &[3]));
+    let p5 = network(1, [[2, 3, 0]], &[5]);
+    assert_eq!(step(&p5, 2, 2).unwrap().outputs, [Edge::of(1)]);
+}
+
+#[test]
+fn p6_and_p7() {
+    let p6 = network(4, [[6, 4, 8], [2, 4, 10]], &[12]);
+    let after = step(&p6, 3, 6).unwrap();
+    assert_eq!(after, network(4, [[6, 4, 8], [6, 4, 2], [8, 4, 12]], &[14]));
+    assert_eq!(step(&after, 8, 0), Ok(network(4, [[6, 4, 2], [8, 4, 10]], &[12])));
+    let p7 = network(5, [[6, 8, 10], [2, 4, 12]], &[14]);
+    let after = network(5, [[6, 8, 10], [2, 4, 6], [2, 4, 8], [14, 16, 10]], &[18]);
+    assert_eq!(step(&p7, 4, 7), Ok(after));
+}
+
+#[test]
+fn p8_and_its_rm3_listing() {
+    assert_eq!(values(&adder()), [0, 1, 1, 2, 1, 2, 2, 3]);
+    assert_eq!((size(&adder()), depth(&adder())), (3, 2));
+    let listing = rm3(3, &[[0, 3, 1], [2, 5, 4], [2, 4, 3], [7, 6, 4]], &[8, 6]);
+    assert_eq!((translate(&adder()), listing.depth()), (listing.clone(), 3));
+    assert_eq!(Rm3::read(&listing.bytes()), Some(listing));
+}
+
+#[test]
+fn p9_and_p10() {
+    assert_eq!(check(&[]), Err((3, 0)));
+    assert_eq!(read(&[0; 12], 12, None), Err(Refusal::plain(1)));
+}
+
+#[test]
+fn limits() {
+    let sized = |inputs, gates| {
+        let mut records = vec![[1, 0, 0, 0]; inputs];
+        records.extend(vec![[2, 0, 1, 0]; gates]);
+        records.push([3, 0, 0, 0]);
+        check(&records).err()
+    };
+    assert_eq!((sized(32, 0), sized(33, 0)), (None, Some((3, 0))));
+    assert_eq!((sized(0, 1024), sized(0, 1025)), (None, Some((3, 0))));
+    let reading = |edge| check(&[[1, 0, 0, 0], [1, 0, 0, 0], [2, 0, 0, edge], [3, 0, 0, 0]]).err();
+    assert_eq!((reading(6), reading(5)), (Some((5, 2)), None));
+}
+
+#[test]
+fn rule_3_at_the_limit() {
+    let mut full = network(2, [[2, 4, 3], [3, 4, 6]], &[8]);
+    full.gates.resize(1023, [Edge::of(0); 3]);
+    assert_eq!(step(&full, 3, 4).map(|network| network.gates.len()), Ok(1024));
+    full.gates.resize(1024, [Edge::of(0); 3]);
+    assert_eq!(step(&full, 3, 4), Err(10));
+    assert_eq!(step(&full, 3, 3), Err(9));
+    assert_eq!(step(&full, 3, 2), Err(8));
+    assert_eq!(step(&full, 9, 2), Err(7));
+}
+
+#[test]
+fn order_of_refusals() {
+    let mut forty = vec![[1, 0, 0, 0]; 40];
+    forty.push([9, 0, 0, 0]);
+    assert_eq!(check(&forty), Err((2, 40)));
+    assert_eq!(check(&[[2, 2, 0, 0]]), Err((3, 0)));
+    assert_eq!(check(&[[3, 60_000, 1, 0]]), Err((4, 0)));
+    assert_eq!(check(&[[2, 2, 0, 0], [3, 0, 1, 0]]), Err((5, 0)));
+}
+
+#[test]
+fn rules_1_5_6_7() {
+    let exchanged = apply(&network(3, [[2, 4, 7]], &[9]), Step { rule: 1, gate: 4, a: 2, b: 0 }, 65_536);
+    assert_eq!(exchanged, Ok(network(3, [[7, 4, 2]], &[9])));
+    let inward = network(4, [[2, 4, 6], [2, 4, 8], [10, 12, 3]], &[14]);
+    assert_eq!(step(&inward, 5, 7), Ok(network(4, [[2, 4, 6], [2, 4, 8], [6, 8, 3], [2, 4, 14]], &[16])));
+    let read_twice = network(1, [[2, 0, 1], [4, 5, 2]], &[4, 5, 6]);
+    assert_eq!(step(&read_twice, 6, 2), Ok(network(1, [[3, 1, 0], [5, 4, 2]], &[5, 4, 6])));
+    let twins = network(1, [[2, 0, 3], [2, 0, 3], [6, 7, 4]], &[7]);
+    let shared = apply(&twins, Step { rule: 7, gate: 3, a: 2, b: 0 }, 65_536);
+    assert_eq!(shared, Ok(network(1, [[2, 0, 3], [2, 0, 3], [4, 5, 4]], &[5])));
+}
+
+#[test]
+fn assignments() {
+    let all = network(32, [], &[64]);
+    assert_eq!(evaluate(&all, u32::MAX), Ok(1));
+    assert_eq!(evaluate(&network(31, [], &[0]), 1 << 31), Err(Refusal::plain(6)));
+    assert_eq!(evaluate(&network(0, [], &[1]), 0), Ok(1));
+    assert_eq!(evaluate(&network(0, [], &[1]), 1), Err(Refusal::plain(6)));
+}
+
+/// A script that grows, sweeps and is refused: zeros up to the greatest used length, garbage kept behind it.
+#[test]
+fn scripts() {
+    let p6 = network(4, [[6, 4, 8], [2, 4, 10]], &[12]);
+    let mut buffer = p6.bytes();
+    buffer.extend([7; 20]);
+    let script = record_bytes(&[[3, 6, 0, 0], [8, 0, 0, 0], [0, 0, 0, 0], [8, 0, 0, 0]]);
+    let refusal = Some(Refusal::plain(7));
+    assert_eq!(run(&mut buffer, 56, &script), Progress { taken: 2, refusal, used: 56 });
+    let mut after = network(4, [[6, 4, 2], [8, 4, 10]], &[12]).bytes();
+    after.extend([0; 8]);
+    after.extend([7; 12]);
+    assert_eq!(buffer, after);
+    let odd = Progress { taken: 0, refusal: Some(Refusal::plain(12)), used: 56 };
+    assert_eq!(run(&mut buffer, 56, &script[..11]), odd);
+    let past = Progress { taken: 0, refusal: Some(Refusal::plain(1)), used: 800 };
+    assert_eq!(run(&mut buffer, 800, &script[..11]), past);
+}
+
+#[test]
+fn rm3_room() {
+    let ask = |room| answer(&Request::Rm3(table(&adder().records()), vec![9; room]));
+    let expected = translate(&adder()).bytes();
+    let full = Answer { refusal: None, numbers: vec![72], bytes: expected };
+    assert_eq!(ask(72), full);
+    let refused = Answer { refusal: Some(Refusal::plain(11)), numbers: vec![0], bytes: vec![9; 71] };
+    assert_eq!(ask(71), refused);
+    assert_eq!(ask(75).bytes[72..], [9; 3]);
+}

@@ -1,0 +1,183 @@
+//! One step: the eight rules on the network, with refusals 7 to 11.
+//!
+//! A rule first says what it plans. While a plan is carried out every gate keeps the name it had, its old node
+//! number, and new gates get names above all others; node numbers are given again at the end.
+
+use crate::table::{Edge, Gate, Network, Refusal, MOST_GATES};
+
+#[derive(Clone, Copy, PartialEq, Eq, Debug)]
+pub struct Step {
+    pub rule: u16,
+    pub gate: u16,
+    pub a: u16,
+    pub b: u16,
+}
+
+impl Step {
+    pub fn of([rule, gate, a, b]: [u16; 4]) -> Step {
+        Step { rule, gate, a, b }
+    }
+
+    pub fn fields(self) -> [u16; 4] {
+        [self.rule, self.gate, self.a, self.b]
+    }
+}
+
+/// What a step does to its gate g and to the edges that name g.
+pub enum Plan {
+    Become(Gate),
+    Redirect(Edge),
+    Insert(Vec<Gate>, Gate),
+    Invert,
+    Sweep,
+}
+
+/// Whether gate, a and b are allowed for the rule (else refusal 8).
+fn fields_allowed(network: &Network, step: Step) -> bool {
+    let is_gate = |node: u16| network.gate(usize::from(node)).is_some();
+    let gate_fits = if step.rule == 8 { step.gate == 0 } else { is_gate(step.gate) };
+    let a_fits = match step.rule {
+        1 => step.a == 1 || step.a == 2,
+        7 => is_gate(step.a) && step.a < step.gate,
+        _ => step.a == 0,
+    };
+    gate_fits && a_fits && step.b == 0
+}
+
+/// What the step would do, or none where its gate lacks the rule's form; the fields must be allowed.
+pub fn plan(network: &Network, step: Step) -> Option<Plan> {
+    if step.rule == 8 {
+        return Some(Plan::Sweep);
+    }
+    let [first, second, third] = network.gate(usize::from(step.gate))?;
+    let uninverted_gate = |edge: Edge| network.gate(edge.node).filter(|_| !edge.inverted);
+    let new = Edge::plain(network.nodes());
+    let next_new = Edge::plain(network.nodes() + 1);
+    match step.rule {
+        1 if step.a == 1 => Some(Plan::Become([second, first, third])),
+        1 => Some(Plan::Become([third, second, first])),
+        2 if first == second => Some(Plan::Redirect(first)),
+        2 if first.node == second.node => Some(Plan::Redirect(third)),
+        3 => {
+            let [y, u, z] = uninverted_gate(third)?;
+            (u == second).then(|| Plan::Insert(vec![[y, u, first]], [z, u, new]))
+        }
+        4 => {
+            let [u, v, z] = uninverted_gate(third)?;
+            Some(Plan::Insert(vec![[first, second, u], [first, second, v]], [new, next_new, z]))
+        }
+        5 => {
+            let [x, y, u] = uninverted_gate(first)?;
+            let [also_x, also_y, v] = uninverted_gate(second)?;
+            let shared = (x, y) == (also_x, also_y);
+            shared.then(|| Plan::Insert(vec![[u, v, third]], [x, y, new]))
+        }
+        6 => Some(Plan::Invert),
+        7 => {
+            let below = usize::from(step.a);
+            (network.gate(below)? == [first, second, third]).then(|| Plan::Redirect(Edge::plain(below)))
+        }
+        _ => None,
+    }
+}
+
+/// A network under change: its gates by name, in record order.
+struct Draft {
+    inputs: usize,
+    gates: Vec<(usize, Gate)>,
+    outputs: Vec<Edge>,
+}
+
+impl Draft {
+    fn of(network: &Network) -> Draft {
+        let names = network.inputs + 1..;
+        let gates = names.zip(network.gates.iter().copied()).collect();
+        Draft { inputs: network.inputs, gates, outputs: network.outputs.clone() }
+    }
+
+    fn carry_out(&mut self, plan: Plan, g: usize) {
+        match plan {
+            Plan::Become(edges) => self.gate_mut(g).1 = edges,
+            Plan::Redirect(to) => {
+                self.each_edge_naming(g, |edge| *edge = to.inverted_if(edge.inverted));
+            }
+            Plan::Insert(new, edges) => {
+                self.gate_mut(g).1 = edges;
+                let fresh = self.inputs + self.gates.len() + 1..;
+                let place = self.gates.iter().position(|gate| gate.0 == g).unwrap_or(0);
+                self.gates.splice(place..place, fresh.zip(new));
+            }
+            Plan::Invert => {
+                let gate = self.gate_mut(g);
+                gate.1 = gate.1.map(|edge| edge.inverted_if(true));
+                self.each_edge_naming(g, |edge| *edge = edge.inverted_if(true));
+            }
+            Plan::Sweep => self.sweep(),
+        }
+    }
+
+    fn gate_mut(&mut self, name: usize) -> &mut (usize, Gate) {
+        self.gates.iter_mut().find(|gate| gate.0 == name).expect("the step's gate")
+    }
+
+    fn each_edge_naming(&mut self, name: usize, change: impl Fn(&mut Edge)) {
+        let edges = self.gates.iter_mut().flat_map(|gate| &mut gate.1).chain(&mut self.outputs);
+        edges.filter(|edge| edge.node == name).for_each(change);
+    }
+
+    /// Keeps the gates that some output reaches: a search from the outputs, gate by gate.
+    fn sweep(&mut self) {
+        let mut reached = vec![false; self.inputs + self.gates.len() + 1];
+        let mut waiting: Vec<usize> = self.outputs.iter().map(|edge| edge.node).collect();
+        while let Some(node) = waiting.pop() {
+            if !std::mem::replace(&mut reached[node], true) && node > self.inputs {
+                waiting.extend(self.gates[node - self.inputs - 1].1.map(|edge| edge.node));
+            }
+        }
+        self.gates.retain(|gate| reached[gate.0]);
+    }
+
+    /// The network with node numbers given anew by record order.
+    fn numbered(self) -> Network {
+        let names = (0..=self.inputs).chain(self.gates.iter().map(|gate| gate.0));
+        let highest = self.gates.iter().map(|gate| gate.0).max().unwrap_or(self.inputs);
+        let mut number = vec![usize::MAX; highest + 1];
+        names.enumerate().for_each(|(at, name)| number[name] = at);
+        let renumbered = |edge: Edge| Edge { node: number[edge.node], ..edge };
+        Network {
+            inputs: self.inputs,
+            gates: self.gates.iter().map(|gate| gate.1.map(renumbered)).collect(),
+            outputs: self.outputs.iter().map(|&edge| renumbered(edge)).collect(),
+        }
+    }
+}
+
+/// The network after one step, in a buffer of `room` bytes.
+pub fn apply(network: &Network, step: Step, room: usize) -> Result<Network, Refusal> {
+    if !(1..=8).contains(&step.rule) {
+        return Err(Refusal::plain(7));
+    }
+    if !fields_allowed(network, step) {
+        return Err(Refusal::plain(8));
+    }
+    let plan = plan(network, step).ok_or(Refusal::plain(9))?;
+    let mut draft = Draft::of(network);
+    draft.carry_out(plan, usize::from(step.gate));
+    let result = draft.numbered();
+    if result.gates.len() > MOST_GATES {
+        return Err(Refusal::plain(10));
+    }
+    if result.used() > room {
+        return Err(Refusal::plain(11));
+    }
+    Ok(result)
+}
+
+/// Lays an accepted result over the buffer, clears what the table no longer uses, and gives the new used length.
+pub fn lay(buffer: &mut [u8], old_used: u32, result: &Network) -> u32 {
+    let bytes = result.bytes();
+    let new_used = bytes.len();
+    buffer[..new_used].copy_from_slice(&bytes);
+    buffer[new_used..(old_used as usize).max(new_used)].fill(0);
+    new_used as u32
+}

@@ -1,0 +1,92 @@
+//! The evaluator against itself: its rules keep what a network is worth, its cases meet everything, and a program
+//! with one slip is found out.
+
+use crate::answer::{answer, Answer};
+use crate::cases::Dealer;
+use crate::counts::Counts;
+use crate::request::Request;
+use crate::run::{run, Settings, ENOUGH};
+use crate::step::apply;
+use crate::value::outputs;
+
+/// No accepted step changes an output, under any assignment.
+#[test]
+fn steps_keep_the_outputs() {
+    let mut dealer = Dealer::new(5, &[4]);
+    for _ in 0..3000 {
+        let Request::Step(table, step) = dealer.deal().request else { panic!("no step") };
+        let Ok(before) = table.network() else {
+            continue;
+        };
+        let Ok(after) = apply(&before, step, 65_536) else {
+            continue;
+        };
+        let assignments = 0..1 << before.inputs.min(6);
+        assert!({ assignments }.all(|assignment| outputs(&before, assignment) == outputs(&after, assignment)));
+    }
+}
+
+/// Runs against a fake program: the evaluator's own answers, changed by one slip.
+fn against(slip: fn(&Request, Answer) -> Answer) -> Result<Counts, String> {
+    let settings = Settings { seed: 3, count: ENOUGH, operations: (1..=8).collect() };
+    let mut counts = Counts::default();
+    let ended = run(&settings, &mut counts, &mut |request, _| Ok(slip(request, answer(request)).bytes()));
+    ended.map(|()| counts).map_err(|difference| difference.text)
+}
+
+#[test]
+fn a_run_against_its_own_answers_meets_everything() {
+    let counts = against(|_, answer| answer).unwrap();
+    assert_eq!(counts.passed(), ENOUGH);
+    assert_eq!(counts.never_met(&[1, 2, 3, 4, 5, 6, 7, 8]), Vec::<String>::new());
+}
+
+#[test]
+fn a_slip_is_found_out() {
+    let slips: [fn(&Request, Answer) -> Answer; 5] = [
+        // Rule 1 takes the other edge.
+        |request, own| match request {
+            Request::Step(table, step) if step.rule == 1 && own.refusal.is_none() => {
+                let other = crate::step::Step { a: 3 - step.a, ..*step };
+                answer(&Request::Step(table.clone(), other))
+            }
+            _ => own,
+        },
+        // 11 is looked for before 10.
+        |request, mut own| {
+            if let (Request::Step(table, _), Some(refusal)) = (request, &mut own.refusal) {
+                if refusal.number == 10 && table.buffer.len() == table.used as usize {
+                    refusal.number = 11;
+                }
+            }
+            own
+        },
+        // Sweep leaves the old bytes behind the new used length.
+        |request, mut own| {
+            if let (Request::Step(table, _), None) = (request, own.refusal) {
+                let freed = own.numbers[0] as usize..(table.used.max(own.numbers[0])) as usize;
+                own.bytes[freed.clone()].copy_from_slice(&table.buffer[freed]);
+            }
+            own
+        },
+        // Refusal 6 from position n + 1 only.
+        |request, own| match (request, own.refusal) {
+            (Request::Evaluate(table, assignment), Some(refusal)) if refusal.number == 6 => {
+                let bit = table.network().map_or(0, |network| 1 << network.inputs);
+                answer(&Request::Evaluate(table.clone(), assignment & !bit))
+            }
+            _ => own,
+        },
+        // A refused RM3 call writes a byte.
+        |request, mut own| {
+            if let (Request::Rm3(..), Some(_), Some(byte)) = (request, own.refusal, own.bytes.last_mut()) {
+                *byte = byte.wrapping_add(1);
+            }
+            own
+        },
+    ];
+    for (number, slip) in slips.into_iter().enumerate() {
+        let text = against(slip).err().unwrap_or_else(|| panic!("slip {number} was not found out"));
+        assert!(text.contains("expected") && text.contains("seed 3"), "{text}");
+    }
+}
