@@ -7,3 +7,7 @@ pub mod Level
 pub mod Seek
 pub mod Check
 pub mod Kept
+pub mod Edit
+pub mod Sweep
+pub mod Rules
+pub mod Step

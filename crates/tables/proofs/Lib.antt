@@ -5,3 +5,5 @@ pub mod Worths
 pub mod Said
 pub mod Encoded
 pub mod After
+pub mod PutField
+pub mod Put

@@ -1,0 +1,109 @@
+-- The loops that edit records: upward, each record from the first on; downward, each record moved up by one place.
+use Prim.Native.Nat.{ℕ, suc, _+_, _-_, _*_, _/_, _≤_, _<_}
+use mathlib.Core.Path.{_≡_, refl, sym, ap, _∙_}
+use mathlib.Core.List.{List}
+use native.Mathlib.Omega.{arith}
+use native.Mathlib.Decide.{decLt}
+use borrow.Author.Tests.{ltb-false, leb-false}
+use mathlib.Core.Bool.{_||_, false}
+use lib.Dec.{ltb, leb}
+use lib.ListN.{length}
+use Rattle.majority.specs.Table.{recordAt}
+use Rattle.majority.specs.Edit.{edges}
+use Rattle.majority.specs.declared.Record.{Record}
+use Rattle.majority.proofs.Logic.{neither}
+use Rattle.tables.specs.Bytes.{recordIn, tableOf, putRecord}
+use Rattle.tables.proofs.Decoded.{length-table, table-at}
+use Rattle.tables.proofs.Encoded.{Bytes}
+use Rattle.editing.specs.Edited.{holding, changedFrom, raise16, grown}
+use Rattle.editing.proofs.Stored.{Stored, mixed, mixed-low, mixed-high, stored-same, stored-up, stored-down, stored-put, stored-holding}
+use Rattle.editing.proofs.Changed.{changed-length, changed-low, changed-high, grown-length, grown-low, grown-here, grown-high}
+
+-- a record that the code reads, where the buffer has it
+pub read : (ys : List ℕ) (i : ℕ) → 8 * i + 8 ≤ length ys → recordAt (tableOf ys (length ys / 8)) i ≡ recordIn ys i
+read ys i h = table-at ys (length ys / 8) i (omega arith)
+
+-- the test that an edit begins with
+pub edit-room : (xs : List ℕ) (first n : ℕ) → (ltb (length xs / 8) n || ltb n first) ≡ false → (8 * n ≤ length xs) × (first ≤ n)
+edit-room xs first n e =
+    let w = neither (ltb (length xs / 8) n) (ltb n first) e in
+    let room : n ≤ length xs / 8 = ltb-false _ _ (w .0) in
+    (omega arith, ltb-false _ _ (w .1))
+
+module _ (f : Record → Record) (xs : List ℕ) (first n : ℕ) where
+  abbrev table : List Record
+  table = tableOf xs n
+
+  abbrev edited : List Record
+  edited = changedFrom f first table
+
+  -- the records below i are edited, and those from i on as they were
+  abbrev pub Editing : ℕ → List ℕ → Type 0
+  Editing i ys = Stored xs n (mixed i (recordAt edited) (recordAt table)) ys
+
+  module _ (fits : 8 * n ≤ length xs) (inside : first ≤ n) where
+    within : first ≤ length table
+    within = omega (arith, length-table xs n)
+
+    pub edit-start : Editing first xs
+    edit-start = stored-same xs n _ (λ j h. go j h (decLt j first))
+      where
+        go : (j : ℕ) → j < n → Dec (j < first) → recordIn xs j ≡ mixed first (recordAt edited) (recordAt table) j
+        go j h (yes l) = sym (mixed-low first _ _ j l ∙ changed-low f first table within j l ∙ table-at xs n j h)
+        go j h (no l) = sym (mixed-high first _ _ j (omega arith) ∙ table-at xs n j h)
+
+    pub edit-next : (ys : List ℕ) (i : ℕ) (r : Record) → first ≤ i → i < n → r ≡ f (recordAt (tableOf ys (length ys / 8)) i) → Editing i ys → Editing (i + 1) (putRecord ys i r)
+    edit-next ys i r l h e s =
+        stored-up fits (recordAt edited) (recordAt table) i r h
+        (e
+        ∙ ap f (read ys i (omega (arith, s .long)) ∙ s .records i h ∙ mixed-high i _ _ i (omega arith))
+        ∙ sym (changed-high f first table within i l (omega (arith, length-table xs n))))
+        s
+
+    pub edit-end : (ys : List ℕ) (i : ℕ) → n ≤ i → Bytes ys → Editing i ys → ys ≡ holding edited xs
+    edit-end ys i h bytes s =
+        stored-holding fits edited (changed-length f first table within ∙ length-table xs n) (λ j l. mixed-low i _ _ j (omega arith)) bytes s
+
+-- the tests that an insertion begins with
+pub insert-room : (xs : List ℕ) (n g : ℕ) → (ltb g 1 || leb (length xs / 8) n) ≡ false → (1 ≤ g) × (8 * (n + 1) ≤ length xs)
+insert-room xs n g e =
+    let w = neither (ltb g 1) (leb (length xs / 8) n) e in
+    let room : n < length xs / 8 = leb-false _ _ (w .1) in
+    (ltb-false _ _ (w .0), omega arith)
+
+-- a gate comes directly before node g, among n records
+module _ (xs : List ℕ) (n g : ℕ) (gate : Record) where
+  abbrev pub old : List Record
+  old = tableOf xs n
+
+  abbrev pub new : List Record
+  new = grown g gate old
+
+  -- the records above i have moved up, and those up to i are as they were
+  abbrev pub Moving : ℕ → List ℕ → Type 0
+  Moving i ys = Stored xs (n + 1) (mixed (i + 1) (recordIn xs) (recordAt new)) ys
+
+  module _ (fits : 8 * (n + 1) ≤ length xs) (inside : g - 1 ≤ n) where
+    within-old : g - 1 ≤ length old
+    within-old = omega (arith, length-table xs n)
+
+    pub move-start : Moving n xs
+    move-start = stored-same xs (n + 1) _ (λ j h. sym (mixed-low (n + 1) _ _ j h))
+
+    pub move-next : (ys : List ℕ) (i : ℕ) (r : Record) → g - 1 ≤ i → i < n → r ≡ edges (raise16 g) (recordAt (tableOf ys (length ys / 8)) i)
+        → Moving (i + 1) ys → Moving i (putRecord ys (i + 1) r)
+    move-next ys i r l h e s =
+        stored-down fits (recordIn xs) (recordAt new) (i + 1) r (omega arith)
+        (e
+        ∙ ap (edges (raise16 g)) (read ys i (omega (arith, s .long)) ∙ s .records i (omega arith) ∙ mixed-low (i + 1 + 1) _ _ i (omega arith) ∙ sym (table-at xs n i h))
+        ∙ sym (grown-high g gate old within-old i l (omega (arith, length-table xs n))))
+        s
+
+    pub move-end : (ys : List ℕ) → Bytes (putRecord ys (g - 1) gate) → Moving (g - 1) ys → putRecord ys (g - 1) gate ≡ holding new xs
+    move-end ys bytes s =
+        stored-holding fits new (grown-length g gate old within-old ∙ ap (λ (k : ℕ). k + 1) (length-table xs n)) (λ j l. refl) bytes
+        (stored-put fits (recordAt new) (g - 1) gate (omega arith) (sym (grown-here g gate old within-old)) (λ j e. go j e (decLt j (g - 1))) s)
+      where
+        go : (j : ℕ) → (j ≡ g - 1 → ⊥) → Dec (j < g - 1) → mixed (g - 1 + 1) (recordIn xs) (recordAt new) j ≡ recordAt new j
+        go j e (yes l) = mixed-low (g - 1 + 1) _ _ j (omega arith) ∙ sym (grown-low g gate old within-old j l ∙ table-at xs n j (omega arith))
+        go j e (no l) = mixed-high (g - 1 + 1) _ _ j (omega arith)

@@ -1,0 +1,102 @@
+// Moving and changing the records of a lent slice. Each function is total: where the slice has no room for what is asked, nothing changes.
+use majority::Record;
+use majority::node;
+use majority::redirected;
+use std::num::wrapping_add_u16;
+use tables::put_record;
+use tables::record_at;
+ghost use mathlib.Core.Path.{_≡_};
+ghost use Rattle.majority.specs.Edge.{redirect as redirectEdge};
+ghost use Rattle.majority.specs.Edit.{edges};
+ghost use Rattle.editing.specs.Edited.{raise16, redirectedFrom, insertedAt, clearedFrom};
+
+fn redirected_record(from: u16, to: u16, r: Record) -> Record
+    ensures { λ q. ⌜ q ≡ edges (redirectEdge from to) r ⌝ }
+{
+    Record {
+        kind: r.kind,
+        e1: redirected(from, to, r.e1),
+        e2: redirected(from, to, r.e2),
+        e3: redirected(from, to, r.e3),
+    }
+}
+
+// Redirects a node to an edge, in the records of s from `first` on, up to n.
+pub fn redirect(s: &mut [u8], first: usize, n: usize, from: u16, to: u16)
+    ensures { λ _. ⌜ now (s .exit) ≡ redirectedFrom (now (s .entry)) first n from to ⌝ }
+{
+    if (s.len() / 8 < n) | (n < first) {
+        return;
+    }
+    let mut i = first;
+    while i < n {
+        let r = record_at(s, i);
+        put_record(s, i, redirected_record(from, to, r));
+        i += 1;
+    }
+}
+
+// An edge after a gate was inserted directly before node g.
+fn raised(g: u16, edge: u16) -> u16
+    ensures { λ r. ⌜ r ≡ raise16 g edge ⌝ }
+{
+    if node(edge) < g {
+        return edge;
+    }
+    wrapping_add_u16(edge, 2)
+}
+
+fn raised_record(g: u16, r: Record) -> Record
+    ensures { λ q. ⌜ q ≡ edges (raise16 g) r ⌝ }
+{
+    Record {
+        kind: r.kind,
+        e1: raised(g, r.e1),
+        e2: raised(g, r.e2),
+        e3: raised(g, r.e3),
+    }
+}
+
+// Inserts a gate directly before node g, among n records: the records from that of g on move up by one place, from the top, and are renumbered.
+pub fn insert(s: &mut [u8], n: usize, g: u16, gate: Record)
+    ensures { λ _. ⌜ now (s .exit) ≡ insertedAt (now (s .entry)) n g gate ⌝ }
+{
+    let after = g as usize;
+    if (after < 1) | (s.len() / 8 <= n) {
+        return;
+    }
+    let place = after - 1;
+    if n < place {
+        return;
+    }
+    let mut i = n;
+    while place < i {
+        i -= 1;
+        let r = record_at(s, i);
+        put_record(s, i + 1, raised_record(g, r));
+    }
+    put_record(s, place, gate);
+}
+
+// Clears the records from `first` on, up to n.
+pub fn clear(s: &mut [u8], first: usize, n: usize)
+    ensures { λ _. ⌜ now (s .exit) ≡ clearedFrom (now (s .entry)) first n ⌝ }
+{
+    if (s.len() / 8 < n) | (n < first) {
+        return;
+    }
+    let mut i = first;
+    while i < n {
+        put_record(
+            s,
+            i,
+            Record {
+                kind: 0,
+                e1: 0,
+                e2: 0,
+                e3: 0,
+            },
+        );
+        i += 1;
+    }
+}
