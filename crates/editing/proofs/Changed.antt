@@ -10,7 +10,7 @@ use Rattle.majority.specs.Edit.{edges}
 use Rattle.majority.specs.declared.Record.{Record}
 use Rattle.editing.specs.Edited.{changedFrom, raise16, grown}
 
-map-at : (f : Record → Record) (t : List Record) (j : ℕ) → j < length t → recordAt (map f t) j ≡ f (recordAt t j)
+pub map-at : (f : Record → Record) (t : List Record) (j : ℕ) → j < length t → recordAt (map f t) j ≡ f (recordAt t j)
 map-at f [] j h = absurd (omega arith)
 map-at f (r ∷ t) zero h = refl
 map-at f (r ∷ t) (suc j) h = map-at f t j (omega arith)

@@ -1,3 +1,4 @@
 pub mod Stored
 pub mod Changed
 pub mod Loops
+pub mod Held

@@ -34,10 +34,10 @@ module _ {keep : ℕ → Bool} {n m m′ o : ℕ} {rs : List Record} (may : Keep
   after = closeUp keep rs
 
   -- the number of a node among the inputs, and among the outputs' records
-  inputs-stay : (k : ℕ) → k ≤ n → kept keep 0 k ≡ k
+  pub inputs-stay : (k : ℕ) → k ≤ n → kept keep 0 k ≡ k
   inputs-stay k h = omega (arith, rw (zero-add k) at (kept-all keep 0 k (λ t p q. may .inputs t (omega arith))))
 
-  outputs-move : (j : ℕ) → j ≤ o → kept keep 0 (n + m + j) ≡ n + m′ + j
+  pub outputs-move : (j : ℕ) → j ≤ o → kept keep 0 (n + m + j) ≡ n + m′ + j
   outputs-move j h = omega (arith, kept-all keep (n + m) j (λ t p q. may .outputs t p (omega arith)), may .gates)
 
   pub closed-length : length after ≡ n + m′ + o

@@ -19,7 +19,7 @@ use Rattle.majority.proofs.Formed.{reads-lower}
 use Rattle.majority.proofs.Keeping.{Each}
 
 -- membership
-member-here : (k : ℕ) (xs : List ℕ) → member k (k ∷ xs) ≡ true
+pub member-here : (k : ℕ) (xs : List ℕ) → member k (k ∷ xs) ≡ true
 unfolding member
 member-here k xs = rw (eq-eqb k k refl)
 
@@ -27,7 +27,7 @@ member-later : (k x : ℕ) (xs : List ℕ) → member k xs ≡ true → member k
 unfolding member
 member-later k x xs h = rw h (or-true (eqb k x))
 
-member-other : (k x : ℕ) (xs : List ℕ) → (k ≡ x → ⊥) → member k (x ∷ xs) ≡ member k xs
+pub member-other : (k x : ℕ) (xs : List ℕ) → (k ≡ x → ⊥) → member k (x ∷ xs) ≡ member k xs
 unfolding member
 member-other k x xs h = rw (ne-eqb k x h)
 

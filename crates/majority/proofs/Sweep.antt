@@ -39,11 +39,11 @@ unfoldable pub left : ℕ → ℕ → List Record → ℕ
 left n m rs = kept (stays rs) 0 (n + m) - n
 
 module _ {n m o : ℕ} {rs : List Record} (formed : WellFormed n m o rs) where
-  input-stays : (j : ℕ) → j < n → stays rs (suc j) ≡ true
+  pub input-stays : (j : ℕ) → j < n → stays rs (suc j) ≡ true
   unfolding stays
   input-stays j h = rw (formed .inputs j h)
 
-  output-stays : (j : ℕ) → n + m ≤ j → j < n + m + o → stays rs (suc j) ≡ true
+  pub output-stays : (j : ℕ) → n + m ≤ j → j < n + m + o → stays rs (suc j) ≡ true
   unfolding stays
   output-stays j p q = rw (formed .outputs j p q .0)
 
@@ -59,7 +59,7 @@ module _ {n m o : ℕ} {rs : List Record} (formed : WellFormed n m o rs) where
   unfolding left
   left-fewer = omega (arith, kept-lower (stays rs) (n + m))
 
-  keepable : Keepable (stays rs) n m (left n m rs) o rs
+  pub keepable : Keepable (stays rs) n m (left n m rs) o rs
   unfolding left
   keepable = record {
     formed = formed;

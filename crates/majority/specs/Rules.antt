@@ -14,19 +14,21 @@ abbrev pub plain : ℕ → ℕ
 plain k = 2 * k
 
 -- 1. Exchange. a = 1: g's first and second edges; a = 2: first and third
+abbrev pub exchanged : ℕ → Record → Record
+exchanged a r = if eqb a 1 then gate (r .e2) (r .e1) (r .e3) else gate (r .e3) (r .e2) (r .e1)
+
 unfoldable pub exchange : ℕ → ℕ → List Record → List Record
-exchange a g rs =
-    let r = nodeRecord rs g in
-    become g (if eqb a 1 then gate (r .e2) (r .e1) (r .e3) else gate (r .e3) (r .e2) (r .e1)) rs
+exchange a g rs = become g (exchanged a (nodeRecord rs g)) rs
 
 -- 2. Majority. First two edges equal: redirect g to the first. First two opposite: redirect g to the third
 unfoldable pub majorityForm : Record → Bool
 majorityForm r = eqb (r .e2) (r .e1) || eqb (r .e2) (flip (r .e1))
 
+abbrev pub majorityEdge : Record → ℕ
+majorityEdge r = if eqb (r .e2) (r .e1) then r .e1 else r .e3
+
 unfoldable pub majorityRule : ℕ → List Record → List Record
-majorityRule g rs =
-    let r = nodeRecord rs g in
-    redirectAll g (if eqb (r .e2) (r .e1) then r .e1 else r .e3) rs
+majorityRule g rs = redirectAll g (majorityEdge (nodeRecord rs g)) rs
 
 -- among n inputs, the edge e names a gate and is not inverted
 abbrev pub plainGate : ℕ → ℕ → Bool

@@ -19,12 +19,17 @@ badRule rule = ltb rule 1 || ltb 8 rule
 abbrev pub isGate : ℕ → ℕ → ℕ → Bool
 isGate n m g = ltb n g && leb g (n + m)
 
--- the fields that a rule allows: g a gate, for sweep 0; a 1 or 2 for exchange, a gate below g for share, else 0; b 0
+-- the gate field is a gate, for sweep 0
+abbrev pub gateFits : ℕ → ℕ → ℕ → ℕ → Bool
+gateFits n m rule g = if eqb rule 8 then eqb g 0 else isGate n m g
+
+-- a is 1 or 2 for exchange, a gate below g for share, else 0
+abbrev pub aFits : ℕ → ℕ → ℕ → ℕ → ℕ → Bool
+aFits n m rule g a = if eqb rule 1 then eqb a 1 || eqb a 2 else if eqb rule 7 then isGate n m a && ltb a g else eqb a 0
+
+-- the fields are those that the rule allows; b is 0
 unfoldable pub fieldsFit : ℕ → ℕ → ℕ → ℕ → ℕ → ℕ → Bool
-fieldsFit n m rule g a b =
-    (if eqb rule 8 then eqb g 0 else isGate n m g)
-    && (if eqb rule 1 then eqb a 1 || eqb a 2 else if eqb rule 7 then isGate n m a && ltb a g else eqb a 0)
-    && eqb b 0
+fieldsFit n m rule g a b = gateFits n m rule g && aFits n m rule g a && eqb b 0
 
 -- the gate has the rule's form
 unfoldable pub hasForm : ℕ → List Record → ℕ → ℕ → ℕ → Bool

@@ -5,7 +5,9 @@ mod reply;
 use input::Part;
 use input::Start;
 use input::Word;
+use libc::STDOUT_FILENO;
 use reply::Reply;
+use rewriting::Stepped;
 use tables::Checked;
 use tables::Reported;
 use tables::Valued;
@@ -27,6 +29,14 @@ enum Outcome {
 // What becomes of a request whose reply is this.
 fn sent(reply: Reply) -> Outcome {
     if reply.write() {
+        return Outcome::Answered;
+    }
+    Outcome::Unwritten
+}
+
+// The same, where every byte of a buffer follows the reply.
+fn sent_with(reply: Reply, bytes: &[u8]) -> Outcome {
+    if reply.write() && io::write_all(STDOUT_FILENO, bytes) {
         return Outcome::Answered;
     }
     Outcome::Unwritten
@@ -64,12 +74,44 @@ fn report(table: &[u8], used: usize) -> Outcome {
     }
 }
 
+// The two 16-bit numbers of a 32-bit one.
+fn low_half(n: u32) -> u16 {
+    (n % 65536) as u16
+}
+
+fn high_half(n: u32) -> u16 {
+    (n / 65536) as u16
+}
+
+// Operation 4: one step, whose four numbers are read here; then the table as the step left it.
+fn step(table: &mut [u8], used: usize) -> Outcome {
+    let Word::Number(rule_gate) = input::read_number() else {
+        return Outcome::Cut;
+    };
+    let Word::Number(a_b) = input::read_number() else {
+        return Outcome::Cut;
+    };
+    let stepped = rewriting::step(
+        table,
+        used,
+        low_half(rule_gate),
+        high_half(rule_gate),
+        low_half(a_b),
+        high_half(a_b),
+    );
+    match stepped {
+        Stepped::Used(n) => sent_with(Reply::accepted().number(n), table),
+        Stepped::Refused(r) => sent_with(Reply::refused(r).number(0), table),
+    }
+}
+
 // Answers an operation on a table, which is lent exactly as the request has it, to read or to change.
 fn on_lent(operation: u8, table: &mut [u8], used: usize) -> Outcome {
     match operation {
         1 => check(table, used),
         2 => evaluate(table, used),
         3 => report(table, used),
+        4 => step(table, used),
         _ => Outcome::Unknown(operation),
     }
 }
@@ -92,7 +134,7 @@ fn answer(buffer: &mut [u8]) -> Outcome {
         return Outcome::End;
     };
     match operation {
-        1..=3 => on_table(operation, buffer),
+        1..=4 => on_table(operation, buffer),
         _ => Outcome::Unknown(operation),
     }
 }

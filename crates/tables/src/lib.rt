@@ -23,6 +23,12 @@ pub enum Refusal {
     NotZero(usize),
     Edge(usize),
     Assignment,
+    Rule,
+    Field,
+    Form,
+    Gates,
+    Room,
+    Script,
 }
 
 pub enum Checked {
@@ -56,6 +62,12 @@ pub fn refusal_number(refusal: Refusal) -> u32
         Refusal::NotZero(_) => 4,
         Refusal::Edge(_) => 5,
         Refusal::Assignment => 6,
+        Refusal::Rule => 7,
+        Refusal::Field => 8,
+        Refusal::Form => 9,
+        Refusal::Gates => 10,
+        Refusal::Room => 11,
+        Refusal::Script => 12,
     }
 }
 
@@ -70,6 +82,12 @@ pub fn refusal_record(refusal: Refusal) -> usize
         Refusal::NotZero(i) => i,
         Refusal::Edge(i) => i,
         Refusal::Assignment => 0,
+        Refusal::Rule => 0,
+        Refusal::Field => 0,
+        Refusal::Form => 0,
+        Refusal::Gates => 0,
+        Refusal::Room => 0,
+        Refusal::Script => 0,
     }
 }
 

@@ -1,0 +1,89 @@
+-- On an accepted table the edits of lent records are those of the rules: redirect, insert, and a gate that becomes another.
+use Prim.Native.Nat.{ℕ, zero, suc, _+_, _-_, _*_, _/_, _%_, _≤_, _<_}
+use mathlib.Core.Path.{_≡_, refl, sym, ap, ap₂, _∙_}
+use mathlib.Core.Bool.{Bool, true, false, _||_}
+use mathlib.Core.List.{List, [], _∷_, map}
+use native.Mathlib.Omega.{arith}
+use native.Mathlib.Decide.{decLt, ℕ-discrete}
+use borrow.Author.Tests.{le-ltb, lt-leb, ne-eqb}
+use lib.Dec.{ltb, leb, eqb}
+use lib.ListN.{length, set, length-map, length-set}
+use lib.Seq.{ext-getD}
+use Rattle.majority.specs.If.{if_then_else_}
+use Rattle.majority.specs.Edge.{nodeOf, redirect, raise}
+use Rattle.majority.specs.Table.{recordOf, blank, recordAt, Below, WellFormed}
+use Rattle.majority.specs.Edit.{edges, redirectAll, insert, become}
+use Rattle.majority.specs.declared.Record.{Record}
+use Rattle.majority.specs.declared.Counts.{Counts}
+use Rattle.majority.proofs.Formed.{reads-lower, reads-nodes}
+use Rattle.majority.proofs.Keeping.{Each}
+use Rattle.majority.proofs.Raise.{raised-from, raise-below, raise-from}
+use Rattle.majority.proofs.Insert.{insert-length, insert-old, insert-new, insert-below, raise-within}
+use Rattle.tables.specs.Bytes.{tableOf, putRecord}
+use Rattle.tables.specs.Worths.{tableIn}
+use Rattle.tables.proofs.Encoded.{Bytes}
+use Rattle.editing.specs.Edited.{holding, changedFrom, editedFrom, redirectedFrom, raise16, grown, insertedAt}
+use Rattle.editing.proofs.Changed.{map-at, changed-length, changed-low, changed-high, grown-length, grown-low, grown-here, grown-high}
+use Rattle.editing.proofs.Held.{Held, held-start, held-put, held-bytes, holding-held}
+use Rattle.rewriting.specs.Ready.{AtGate, Room}
+use Rattle.rewriting.proofs.Gate.{at-formed, at-length, at-small}
+
+-- the record with each of its edges changed alike
+same-edges : (f h : ℕ → ℕ) (r : Record) → Each (λ x. f x ≡ h x) r → edges f r ≡ edges h r
+same-edges f h r e = λ d. recordOf (r .kind) (e .0 d) (e .1 d) (e .2 d)
+
+redirect-other : (g e x : ℕ) → nodeOf x < g → redirect g e x ≡ x
+unfolding redirect
+redirect-other g e x h = let n : nodeOf x ≡ g → ⊥ = λ q. omega arith in rw (ne-eqb (nodeOf x) g n)
+
+-- a gate g of a well-formed table
+module _ {n m o g : ℕ} {t : List Record} (formed : WellFormed n m o t) (some : 1 ≤ g) (upto : g ≤ n + m) where
+  inside : g ≤ length t
+  inside = omega (arith, formed .whole)
+
+  -- no record up to that of g names g
+  unnamed : (e j : ℕ) → j < g → edges (redirect g e) (recordAt t j) ≡ recordAt t j
+  unnamed e j l =
+      let low = reads-lower formed j (omega (arith, inside)) in
+      same-edges (redirect g e) (λ x. x) (recordAt t j)
+      (redirect-other g e _ (omega (arith, low .first)), redirect-other g e _ (omega (arith, low .second)), redirect-other g e _ (omega (arith, low .third)))
+
+  pub redirect-edit : (e : ℕ) → changedFrom (edges (redirect g e)) g t ≡ redirectAll g e t
+  unfolding redirectAll
+  redirect-edit e =
+      let len = changed-length (edges (redirect g e)) g t inside in
+      ext-getD blank _ _ (len ∙ sym (length-map t (edges (redirect g e)))) (λ j h. go j (omega (arith, len)) (decLt j g))
+    where
+      go : (j : ℕ) → j < length t → Dec (j < g) → recordAt (changedFrom (edges (redirect g e)) g t) j ≡ recordAt (map (edges (redirect g e)) t) j
+      go j h (yes l) = changed-low (edges (redirect g e)) g t inside j l ∙ sym (unnamed e j l) ∙ sym (map-at (edges (redirect g e)) t j h)
+      go j h (no l) = changed-high (edges (redirect g e)) g t inside j (omega arith) h ∙ sym (map-at (edges (redirect g e)) t j h)
+
+  module _ (few : n + m ≤ 2000) where
+    -- within 16 bits
+    raise-short : (j : ℕ) → j < length t → edges (raise16 g) (recordAt t j) ≡ edges (raise g 1) (recordAt t j)
+    unfolding raise16
+    raise-short j h =
+        let w = raise-within formed g [] 1 j h in
+        same-edges (raise16 g) (raise g 1) (recordAt t j) (short _ (w .0), short _ (w .1), short _ (w .2))
+      where
+        short : (x : ℕ) → raise g 1 x ≤ 2 * (n + m + 1) + 1 → raise g 1 x % 65536 ≡ raise g 1 x
+        short x l = omega arith
+
+    pub insert-edit : (r : Record) → grown g r t ≡ insert g (r ∷ []) t
+    insert-edit r =
+        let low : g - 1 ≤ length t = omega (arith, inside) in
+        let len = grown-length g r t low in
+        ext-getD blank _ _ (len ∙ sym (insert-length g (r ∷ []) t (omega arith) low)) (λ j h. go j low (omega (arith, len)) (decLt j (g - 1)) (ℕ-discrete j (g - 1)))
+      where
+        go : (j : ℕ) → g - 1 ≤ length t → j < length t + 1 → Dec (j < g - 1) → Dec (j ≡ g - 1) → recordAt (grown g r t) j ≡ recordAt (insert g (r ∷ []) t) j
+        go j low h (yes l) _ = grown-low g r t low j l ∙ sym (insert-below formed g (r ∷ []) (omega arith) low j l)
+        go j low h (no l) (yes e) =
+            let z : g - 1 + 0 ≡ g - 1 = omega arith in
+            rw e (grown-here g r t low ∙ sym (rw z at (insert-new g (r ∷ []) t (omega arith) low 0 (omega arith))))
+        go j low h (no l) (no e) =
+            let k = j - 1 in
+            let next : k + 1 ≡ j = omega arith in
+            rw (← next)
+            (grown-high g r t low k (omega arith) (omega arith)
+            ∙ raise-short k (omega arith)
+            ∙ sym (ap (recordAt (insert g (r ∷ []) t)) (sym (raised-from (g - 1) 1 k (omega arith))) ∙ insert-old g (r ∷ []) t (omega arith) low k))

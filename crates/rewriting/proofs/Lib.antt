@@ -1,0 +1,14 @@
+pub mod Gate
+pub mod Edits
+pub mod Twice
+pub mod Holding
+pub mod Marks
+pub mod Numbers
+pub mod Behind
+pub mod Closing
+pub mod Moving
+pub mod Swept
+pub mod Storing
+pub mod Fits
+pub mod Taking
+pub mod Replies

@@ -1,0 +1,98 @@
+-- What a step replies and leaves, from the check and from what was applied.
+use Prim.Native.Nat.{ℕ, _+_, _*_, _/_, _≤_}
+use mathlib.Core.Path.{_≡_, refl, sym, ap, _∙_}
+use mathlib.Core.List.{List}
+use native.Mathlib.Omega.{arith}
+use lib.ListN.{length}
+use Rattle.majority.specs.Check.{Reply, accepted, refused, andThen, count}
+use Rattle.majority.specs.Step.{step}
+use Rattle.majority.specs.declared.Record.{Record}
+use Rattle.majority.specs.declared.Counts.{Counts}
+use Rattle.majority.proofs.Steps.{step-kept, step-gates}
+use Rattle.tables.specs.Calls.{checkOf}
+use Rattle.tables.specs.Worths.{Sound, tableIn}
+use Rattle.tables.specs.Said.{refusalNumber, refusalRecord, saidCheck}
+use Rattle.tables.specs.declared.Refusal.{Refusal}
+use Rattle.tables.specs.declared.Checked.{Checked}
+use Rattle.tables.specs.declared.Checked.the-variants.{Accepted, Refused}
+use Rattle.tables.proofs.Worths.{sound-accepted}
+use Rattle.tables.proofs.After.{checked-length, after-accepted, after-refused}
+use Rattle.rewriting.specs.Applied.{afterReply, usedBy, stepIn, saidApplied, AppliedTo}
+use Rattle.rewriting.specs.Calls.{stepTable, stepOf, stepBytes}
+use Rattle.rewriting.specs.declared.Applied.{Applied}
+use Rattle.rewriting.specs.declared.Applied.the-variants.{Taken as AppliedTaken, Refused as AppliedRefused}
+
+-- what a taken step made, and that it has as many records as its counts say
+pub record Made (xs : List ℕ) (c : Counts) (rule g a b gates : ℕ) : Type 0 where
+  pub table : List Record
+  pub is : stepIn xs c rule g a b ≡ accepted table
+  pub counted : gates ≡ count 2 table
+  pub long : length table ≡ c .inputs + gates + c .outputs
+  pub few : gates ≤ 1024
+
+module _ {xs : List ℕ} {c : Counts} (sound : Sound xs c) (rule g a b gates : ℕ) where
+  made : accepted gates ≡ andThen (stepIn xs c rule g a b) (λ t. accepted (count 2 t)) → Made xs c rule g a b gates
+  made e = go (stepIn xs c rule g a b) refl e
+    where
+      go : (r : Reply (List Record)) → stepIn xs c rule g a b ≡ r → accepted gates ≡ andThen r (λ t. accepted (count 2 t)) → Made xs c rule g a b gates
+      go (accepted t) is e =
+          let formed = sound-accepted sound .formed in
+          let same : gates ≡ count 2 t = cc in
+          record {
+            table = t;
+            is = is;
+            counted = same;
+            long = step-kept formed (length xs) rule g a b t is .formed .whole ∙ ap (λ (m : ℕ). c .inputs + m + c .outputs) (sym same);
+            few = rw same (step-gates formed (length xs) rule g a b t is);
+          }
+      go (refused k i) is e = let z : _≡_ {A = ℕ} 0 1 = cc in absurd (omega arith)
+
+  pub taken-made : {r : Applied} {ys : List ℕ} → AppliedTo xs c rule g a b r ys → r ≡ AppliedTaken gates → Made xs c rule g a b gates
+  taken-made done e = made (ap saidApplied (sym e) ∙ done .reply)
+
+not-taken : {A B : Type 0} (r : Reply A) (f : A → B) (k i : ℕ) → refused k i ≡ andThen r (λ x. accepted (f x)) → r ≡ refused k i
+not-taken (accepted x) f k i e = let z : _≡_ {A = ℕ} 0 1 = cc in absurd (omega arith)
+not-taken (refused j h) f k i e =
+    let p : j ≡ k = cc in
+    let q : h ≡ i = cc in
+    rw (p, q)
+
+module _ (xs : List ℕ) (used : ℕ) (r : Checked) (said : saidCheck r ≡ checkOf xs used) (rule g a b : ℕ) where
+  abbrev by : List Record → Counts → Reply (List Record)
+  by rs c = step (length xs) (c .inputs) (c .gates) rs rule g a b
+
+  module _ {c : Counts} (is : r ≡ Accepted c) where
+    checked : checkOf xs used ≡ accepted c
+    checked = sym said ∙ ap saidCheck is
+
+    table-same : stepTable xs used rule g a b ≡ stepIn xs c rule g a b
+    unfolding stepTable
+    table-same = after-accepted xs used by r said c is
+
+    pub step-leaves : {done : Applied} {ys : List ℕ} → AppliedTo xs c rule g a b done ys → ys ≡ stepBytes xs used rule g a b
+    unfolding stepBytes
+    step-leaves applied = applied .bytes ∙ rw (table-same, checked-length xs used c checked)
+
+    pub step-replies : {gates : ℕ} → Made xs c rule g a b gates → stepOf xs used rule g a b ≡ accepted (8 * (c .inputs + gates + c .outputs))
+    unfolding stepOf
+    step-replies m = rw (table-same, m .is, m .long)
+
+    pub step-refuses : {done : Applied} {ys : List ℕ} (refusal : Refusal) → AppliedTo xs c rule g a b done ys → done ≡ AppliedRefused refusal
+        → stepOf xs used rule g a b ≡ refused (refusalNumber refusal) (refusalRecord refusal)
+    unfolding stepOf
+    step-refuses refusal applied e =
+        rw (table-same, not-taken (stepIn xs c rule g a b) (count 2) _ _ (ap saidApplied (sym e) ∙ applied .reply))
+
+  -- where the table is refused
+  module _ (refusal : Refusal) (is : r ≡ Refused refusal) where
+    table-refused : stepTable xs used rule g a b ≡ refused (refusalNumber refusal) (refusalRecord refusal)
+    unfolding stepTable
+    table-refused = after-refused xs used by r said refusal is
+
+    pub refused-replies : stepOf xs used rule g a b ≡ refused (refusalNumber refusal) (refusalRecord refusal)
+    unfolding stepOf
+    refused-replies = rw table-refused
+
+    pub refused-leaves : stepBytes xs used rule g a b ≡ xs
+    unfolding stepBytes
+    refused-leaves = rw table-refused

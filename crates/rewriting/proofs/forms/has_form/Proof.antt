@@ -1,0 +1,97 @@
+-- `forms::has_form` meets its contract: each return is one case of the definition.
+use borrow.Author.Needs.{needs}
+use mathlib.Core.Path.{_≡_, refl, sym, ap, _∙_}
+use native.Mathlib.Omega.{arith}
+use borrow.Author.Tests.{eq-eqb, ne-eqb}
+use Rattle.majority.specs.Rules.{majorityForm, outwardForm}
+use Rattle.majority.specs.Step.{hasForm}
+use Rattle.rewriting.proofs.Gate.{at-gate, share-gate, gate-low}
+use Rattle.rewriting.proofs.forms.has_form.Statement.{statement}
+use Rattle.rewriting.proofs.forms.has_form.Tie as tie
+
+node-record-requires : tie.Need-node-record-requires
+node-record-requires c κs = let at = at-gate (c .before .before .pre .0) _ _ _ _ (c .before .before .pre .1) (λ e. omega (arith, c .if1 .taken)) in
+    (c .before .before .pre .0, omega (arith, at .from), at .upto)
+
+majority-form-requires : tie.Need-majority-form-requires
+majority-form-requires c κs = search needs
+
+returns : tie.Need-returns
+unfolding hasForm
+returns c = rw (eq-eqb _ _ (c .before .before .if1 .taken)) (c .majority-form .ensures ∙ ap majorityForm (c .before .node-record .ensures))
+
+node-record-requires-2 : tie.Need-node-record-requires-2
+node-record-requires-2 c κs = let at = at-gate (c .before .before .before .pre .0) _ _ _ _ (c .before .before .before .pre .1) (λ e. omega (arith, c .if2 .taken)) in
+    (c .before .before .before .pre .0, omega (arith, at .from), at .upto)
+
+associativity-form-requires : tie.Need-associativity-form-requires
+associativity-form-requires c κs = let at = at-gate (c .before .before .before .before .pre .0) _ _ _ _ (c .before .before .before .before .pre .1) (λ e. omega (arith, c .before .if2 .taken)) in
+    (c .before .before .before .before .pre .0, rw (c .node-record2 .ensures) (omega (arith, gate-low at .third, at .upto)))
+
+returns-2 : tie.Need-returns-2
+unfolding hasForm
+returns-2 c = rw (ne-eqb _ _ (c .before .before .before .if1 .left), eq-eqb _ _ (c .before .before .if2 .taken), ← c .before .node-record2 .ensures) (c .associativity-form .ensures)
+
+node-record-requires-3 : tie.Need-node-record-requires-3
+node-record-requires-3 c κs = let at = at-gate (c .before .before .before .before .pre .0) _ _ _ _ (c .before .before .before .before .pre .1) (λ e. omega (arith, c .if3 .taken)) in
+    (c .before .before .before .before .pre .0, omega (arith, at .from), at .upto)
+
+plain-gate-requires : tie.Need-plain-gate-requires
+plain-gate-requires c κs = search needs
+
+returns-3 : tie.Need-returns-3
+unfolding hasForm outwardForm
+returns-3 c = rw (ne-eqb _ _ (c .before .before .before .before .if1 .left), ne-eqb _ _ (c .before .before .before .if2 .left), eq-eqb _ _ (c .before .before .if3 .taken), ← c .before .node-record3 .ensures) (c .plain-gate .ensures)
+
+node-record-requires-4 : tie.Need-node-record-requires-4
+node-record-requires-4 c κs = let at = at-gate (c .before .before .before .before .before .pre .0) _ _ _ _ (c .before .before .before .before .before .pre .1) (λ e. omega (arith, c .if4 .taken)) in
+    (c .before .before .before .before .before .pre .0, omega (arith, at .from), at .upto)
+
+inward-form-requires : tie.Need-inward-form-requires
+inward-form-requires c κs = let at = at-gate (c .before .before .before .before .before .before .pre .0) _ _ _ _ (c .before .before .before .before .before .before .pre .1) (λ e. omega (arith, c .before .if4 .taken)) in
+    (c .before .before .before .before .before .before .pre .0, rw (c .node-record4 .ensures) (omega (arith, gate-low at .first, at .upto)), rw (c .node-record4 .ensures) (omega (arith, gate-low at .second, at .upto)))
+
+returns-4 : tie.Need-returns-4
+unfolding hasForm
+returns-4 c = rw (ne-eqb _ _ (c .before .before .before .before .before .if1 .left), ne-eqb _ _ (c .before .before .before .before .if2 .left), ne-eqb _ _ (c .before .before .before .if3 .left), eq-eqb _ _ (c .before .before .if4 .taken), ← c .before .node-record4 .ensures) (c .inward-form .ensures)
+
+node-record-requires-5 : tie.Need-node-record-requires-5
+node-record-requires-5 c κs = let at = at-gate (c .before .before .before .before .before .before .pre .0) _ _ _ _ (c .before .before .before .before .before .before .pre .1) (λ e. omega (arith, c .if5 .taken)) in
+    (c .before .before .before .before .before .before .pre .0, omega (arith, at .from), at .upto)
+
+node-record-requires-6 : tie.Need-node-record-requires-6
+node-record-requires-6 c κs = let w = share-gate (c .before .before .before .before .before .before .before .pre .0) _ _ _ _ (c .before .before .before .before .before .before .before .pre .1) (c .before .if5 .taken) in
+    (c .before .before .before .before .before .before .before .pre .0, w .0, w .1)
+
+share-form-requires : tie.Need-share-form-requires
+share-form-requires c κs = search needs
+
+returns-5 : tie.Need-returns-5
+unfolding hasForm
+returns-5 c = rw (ne-eqb _ _ (c .before .before .before .before .before .before .before .if1 .left), ne-eqb _ _ (c .before .before .before .before .before .before .if2 .left), ne-eqb _ _ (c .before .before .before .before .before .if3 .left), ne-eqb _ _ (c .before .before .before .before .if4 .left), eq-eqb _ _ (c .before .before .before .if5 .taken), ← c .before .before .node-record5 .ensures, ← c .before .node-record6 .ensures) (c .share-form .ensures)
+
+returns-6 : tie.Need-returns-6
+unfolding hasForm
+returns-6 c = rw (ne-eqb _ _ (c .before .before .before .before .if1 .left), ne-eqb _ _ (c .before .before .before .if2 .left), ne-eqb _ _ (c .before .before .if3 .left), ne-eqb _ _ (c .before .if4 .left), ne-eqb _ _ (c .if5 .left))
+
+pub has-form-spec : {M : Type 1} → statement M
+has-form-spec =
+    tie.close
+    (tie.spec
+    node-record-requires
+    majority-form-requires
+    returns
+    node-record-requires-2
+    associativity-form-requires
+    returns-2
+    node-record-requires-3
+    plain-gate-requires
+    returns-3
+    node-record-requires-4
+    inward-form-requires
+    returns-4
+    node-record-requires-5
+    node-record-requires-6
+    share-form-requires
+    returns-5
+    returns-6)

@@ -1,0 +1,74 @@
+-- Scripts (SPEC 5.5): steps are taken in order until one is refused, each with the used length that the one before replied.
+use Prim.Native.Nat.{ℕ, _+_, _/_, _%_}
+use mathlib.Core.Bool.{not}
+use mathlib.Core.List.{List, [], _∷_}
+use lib.Dec.{eqb}
+use lib.ListN.{length}
+use Rattle.majority.specs.If.{if_then_else_}
+use Rattle.majority.specs.Check.{Reply, accepted, refused}
+use Rattle.majority.specs.declared.Record.{Record}
+use Rattle.majority.specs.declared.Counts.{Counts}
+use Rattle.tables.specs.Bytes.{tableOf}
+use Rattle.tables.specs.Calls.{checkOf}
+use Rattle.tables.specs.Said.{refusalNumber, refusalRecord}
+use Rattle.rewriting.specs.Calls.{stepOf, stepBytes}
+use Rattle.rewriting.specs.declared.Ending.{Ending}
+use Rattle.rewriting.specs.declared.Ending.the-variants.{Finished, Stopped}
+use Rattle.rewriting.specs.declared.Progress.{Progress}
+
+-- how a script ended: with no refusal, or with the refusal of this number and the record that it carries
+pub data End : Type 0 where
+  finished : End
+  stopped : ℕ → ℕ → End
+
+-- what a script replies, and the bytes that it leaves
+pub record Run : Type 0 where
+  pub taken : ℕ
+  pub end : End
+  pub used : ℕ
+  pub bytes : List ℕ
+
+-- the steps of a script: a step is read as a record is, its kind being the rule and its fields gate, a and b
+abbrev pub stepsOf : List ℕ → List Record
+stepsOf steps = tableOf steps (length steps / 8)
+
+-- the reply and the bytes of one step
+abbrev pub replyTo : List ℕ → ℕ → Record → Reply ℕ
+replyTo xs used r = stepOf xs used (r .kind) (r .e1) (r .e2) (r .e3)
+
+abbrev pub bytesAfter : List ℕ → ℕ → Record → List ℕ
+bytesAfter xs used r = stepBytes xs used (r .kind) (r .e1) (r .e2) (r .e3)
+
+-- what follows an accepted step, or a refused one
+abbrev pub byReply : Reply ℕ → (ℕ → Run) → (ℕ → ℕ → Run) → Run
+byReply (accepted used) on stop = on used
+byReply (refused k i) on stop = stop k i
+
+-- the steps, one after another, where `taken` were taken before
+unfoldable pub runFrom : ℕ → List ℕ → ℕ → List Record → Run
+runFrom taken xs used [] = record { taken = taken; end = finished; used = used; bytes = xs }
+runFrom taken xs used (r ∷ rs) =
+    byReply (replyTo xs used r)
+    (λ next. runFrom (taken + 1) (bytesAfter xs used r) next rs)
+    (λ k i. record { taken = taken; end = stopped k i; used = used; bytes = xs })
+
+-- no step is taken
+abbrev pub untaken : ℕ → ℕ → List ℕ → ℕ → Run
+untaken k i xs used = record { taken = 0; end = stopped k i; used = used; bytes = xs }
+
+abbrev pub afterCheck : Reply Counts → List ℕ → ℕ → List ℕ → Run
+afterCheck (refused k i) xs used steps = untaken k i xs used
+afterCheck (accepted c) xs used steps = if not (eqb (length steps % 8) 0) then untaken 12 0 xs used else runFrom 0 xs used (stepsOf steps)
+
+-- a script: refusals 1 to 5 of the table, then 12, then its steps
+unfoldable pub scriptRun : List ℕ → ℕ → List ℕ → Run
+scriptRun xs used steps = afterCheck (checkOf xs used) xs used steps
+
+-- the end of each case of the enum, and the reply
+abbrev pub saidEnd : Ending → End
+saidEnd Finished = finished
+saidEnd (Stopped r) = stopped (refusalNumber r) (refusalRecord r)
+
+-- the run of which p is the reply and ys are the bytes
+abbrev pub runOf : Progress → List ℕ → Run
+runOf p ys = record { taken = p .taken; end = saidEnd (p .ending); used = p .used; bytes = ys }

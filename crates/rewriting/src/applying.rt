@@ -1,0 +1,88 @@
+// One step on a table that was checked.
+use crate::Applied;
+use crate::fields::ASSOCIATIVITY;
+use crate::fields::EXCHANGE;
+use crate::fields::INVERSION;
+use crate::fields::INWARD;
+use crate::fields::MAJORITY;
+use crate::fields::OUTWARD;
+use crate::fields::SHARE;
+use crate::fields::bad_rule;
+use crate::fields::fields_fit;
+use crate::fields::inserted;
+use crate::forms::has_form;
+use crate::rules::associativity;
+use crate::rules::exchange;
+use crate::rules::inversion;
+use crate::rules::inward;
+use crate::rules::majority_rule;
+use crate::rules::outward;
+use crate::rules::share;
+use crate::sweeping::sweep;
+use majority::Counts;
+use majority::MOST_GATES;
+use tables::Refusal;
+ghost use mathlib.Core.Path.{_≡_};
+ghost use Rattle.tables.specs.Worths.{Sound};
+ghost use Rattle.rewriting.specs.Ready.{Fitting};
+ghost use Rattle.rewriting.specs.Applied.{Rewritten, AppliedTo};
+
+// Rewrites by a rule that fits; answers how many gates there are then.
+fn rewrite(s: &mut [u8], counts: Counts, rule: u16, gate: u16, a: u16, b: u16) -> usize
+    requires { ⌜ Fitting (now s) counts rule gate a b ⌝ }
+    ensures { λ r. ⌜ Rewritten (now (s .entry)) counts rule gate a r (now (s .exit)) ⌝ }
+{
+    if rule == EXCHANGE {
+        exchange(s, counts, gate, a);
+        return counts.gates;
+    }
+    if rule == MAJORITY {
+        majority_rule(s, counts, gate);
+        return counts.gates;
+    }
+    if rule == ASSOCIATIVITY {
+        associativity(s, counts, gate);
+        return counts.gates + 1;
+    }
+    if rule == OUTWARD {
+        outward(s, counts, gate);
+        return counts.gates + 2;
+    }
+    if rule == INWARD {
+        inward(s, counts, gate);
+        return counts.gates + 1;
+    }
+    if rule == INVERSION {
+        inversion(s, counts, gate);
+        return counts.gates;
+    }
+    if rule == SHARE {
+        share(s, counts, gate, a);
+        return counts.gates;
+    }
+    sweep(s, counts)
+}
+
+// Applies one step: refusals 7 to 11 in their order, or the rule's edit.
+pub(crate) fn apply(s: &mut [u8], counts: Counts, rule: u16, gate: u16, a: u16, b: u16) -> Applied
+    requires { ⌜ Sound (now s) counts ⌝ }
+    ensures { λ r. ⌜ AppliedTo (now (s .entry)) counts rule gate a b r (now (s .exit)) ⌝ }
+{
+    if bad_rule(rule) {
+        return Applied::Refused(Refusal::Rule);
+    }
+    if !fields_fit(counts, rule, gate, a, b) {
+        return Applied::Refused(Refusal::Field);
+    }
+    if !has_form(s, counts, rule, gate, a, b) {
+        return Applied::Refused(Refusal::Form);
+    }
+    let more = inserted(rule);
+    if MOST_GATES < counts.gates + more {
+        return Applied::Refused(Refusal::Gates);
+    }
+    if s.len() < 8 * (counts.inputs + counts.gates + counts.outputs + more) {
+        return Applied::Refused(Refusal::Room);
+    }
+    Applied::Taken(rewrite(s, counts, rule, gate, a, b))
+}

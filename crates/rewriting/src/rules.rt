@@ -1,0 +1,150 @@
+// The rules' edits of a table, where the gate has the rule's form.
+use crate::forms::named_record;
+use crate::forms::node_record;
+use editing::insert;
+use editing::redirect;
+use majority::Counts;
+use majority::GATE;
+use majority::Record;
+use majority::flipped;
+use tables::put_record;
+ghost use mathlib.Core.Path.{_≡_};
+ghost use mathlib.Core.List.{[], _∷_};
+ghost use Prim.Native.Nat.{_+_, _<_};
+ghost use Rattle.majority.specs.Edge.{flip};
+ghost use Rattle.majority.specs.Table.{gate};
+ghost use Rattle.majority.specs.Edit.{edges, insert as insertGates};
+ghost use Rattle.majority.specs.Rules.{exchanged as exchangedGate, majorityEdge, exchange as exchangeRule, majorityRule, associativity as associativityRule, outward as outwardRule, inward as inwardRule, inversion as inversionRule, share as shareRule};
+ghost use Rattle.tables.specs.Worths.{tableIn};
+ghost use Rattle.editing.specs.Edited.{holding};
+ghost use Rattle.rewriting.specs.Ready.{AtGate, ThirdGate, FirstGates, Sharing, Room, Inserting};
+
+// How many records the table has.
+fn records(counts: Counts) -> usize
+    requires { ⌜ counts .inputs + counts .gates + counts .outputs < 65536 ⌝ }
+    ensures { λ r. ⌜ r ≡ counts .inputs + counts .gates + counts .outputs ⌝ }
+{
+    counts.inputs + counts.gates + counts.outputs
+}
+
+fn gate_of(x: u16, y: u16, z: u16) -> Record
+    ensures { λ r. ⌜ r ≡ gate x y z ⌝ }
+{
+    Record {
+        kind: GATE,
+        e1: x,
+        e2: y,
+        e3: z,
+    }
+}
+
+// The gate with its first edge exchanged with the second, where a is 1, or with the third.
+fn exchanged(a: u16, r: Record) -> Record
+    ensures { λ q. ⌜ q ≡ exchangedGate a r ⌝ }
+{
+    if a == 1 {
+        return gate_of(r.e2, r.e1, r.e3);
+    }
+    gate_of(r.e3, r.e2, r.e1)
+}
+
+pub(crate) fn exchange(s: &mut [u8], counts: Counts, gate: u16, a: u16)
+    requires { ⌜ AtGate (now s) counts gate ⌝ }
+    ensures { λ _. ⌜ now (s .exit) ≡ holding (exchangeRule a gate (tableIn (now (s .entry)) counts)) (now (s .entry)) ⌝ }
+{
+    let r = node_record(s, counts, gate);
+    put_record(s, (gate - 1) as usize, exchanged(a, r));
+}
+
+// The edge to which the majority rule redirects a gate.
+fn majority_edge(r: Record) -> u16
+    ensures { λ e. ⌜ e ≡ majorityEdge r ⌝ }
+{
+    if r.e2 == r.e1 { r.e1 } else { r.e3 }
+}
+
+pub(crate) fn majority_rule(s: &mut [u8], counts: Counts, gate: u16)
+    requires { ⌜ AtGate (now s) counts gate ⌝ }
+    ensures { λ _. ⌜ now (s .exit) ≡ holding (majorityRule gate (tableIn (now (s .entry)) counts)) (now (s .entry)) ⌝ }
+{
+    let r = node_record(s, counts, gate);
+    redirect(s, gate as usize, records(counts), gate, majority_edge(r));
+}
+
+pub(crate) fn associativity(s: &mut [u8], counts: Counts, gate: u16)
+    requires { ⌜ AtGate (now s) counts gate × ThirdGate (now s) counts gate × Room 1 (now s) counts ⌝ }
+    ensures { λ _. ⌜ now (s .exit) ≡ holding (associativityRule gate (tableIn (now (s .entry)) counts)) (now (s .entry)) ⌝ }
+{
+    let r = node_record(s, counts, gate);
+    let h = named_record(s, counts, r.e3);
+    insert(s, records(counts), gate, gate_of(h.e1, r.e2, r.e1));
+    put_record(s, gate as usize, gate_of(h.e3, r.e2, 2 * gate));
+}
+
+// Inserts two gates that read nodes below the gate.
+fn insert_two(s: &mut [u8], counts: Counts, gate: u16, first: Record, second: Record)
+    requires { ⌜ AtGate (now s) counts gate × Room 2 (now s) counts × Inserting gate first second ⌝ }
+    ensures { λ _. ⌜ now (s .exit) ≡ holding (insertGates gate (first ∷ second ∷ []) (tableIn (now (s .entry)) counts)) (now (s .entry)) ⌝ }
+{
+    let n = records(counts);
+    insert(s, n, gate, first);
+    insert(s, n + 1, gate + 1, second);
+}
+
+pub(crate) fn outward(s: &mut [u8], counts: Counts, gate: u16)
+    requires { ⌜ AtGate (now s) counts gate × ThirdGate (now s) counts gate × Room 2 (now s) counts ⌝ }
+    ensures { λ _. ⌜ now (s .exit) ≡ holding (outwardRule gate (tableIn (now (s .entry)) counts)) (now (s .entry)) ⌝ }
+{
+    let r = node_record(s, counts, gate);
+    let h = named_record(s, counts, r.e3);
+    insert_two(
+        s,
+        counts,
+        gate,
+        gate_of(r.e1, r.e2, h.e1),
+        gate_of(r.e1, r.e2, h.e2),
+    );
+    put_record(
+        s,
+        gate as usize + 1,
+        gate_of(2 * gate, 2 * (gate + 1), h.e3),
+    );
+}
+
+pub(crate) fn inward(s: &mut [u8], counts: Counts, gate: u16)
+    requires { ⌜ AtGate (now s) counts gate × FirstGates (now s) counts gate × Room 1 (now s) counts ⌝ }
+    ensures { λ _. ⌜ now (s .exit) ≡ holding (inwardRule gate (tableIn (now (s .entry)) counts)) (now (s .entry)) ⌝ }
+{
+    let r = node_record(s, counts, gate);
+    let p = named_record(s, counts, r.e1);
+    let q = named_record(s, counts, r.e2);
+    insert(s, records(counts), gate, gate_of(p.e3, q.e3, r.e3));
+    put_record(s, gate as usize, gate_of(p.e1, p.e2, 2 * gate));
+}
+
+fn flipped_record(r: Record) -> Record
+    ensures { λ q. ⌜ q ≡ edges flip r ⌝ }
+{
+    Record {
+        kind: r.kind,
+        e1: flipped(r.e1),
+        e2: flipped(r.e2),
+        e3: flipped(r.e3),
+    }
+}
+
+pub(crate) fn inversion(s: &mut [u8], counts: Counts, gate: u16)
+    requires { ⌜ AtGate (now s) counts gate ⌝ }
+    ensures { λ _. ⌜ now (s .exit) ≡ holding (inversionRule gate (tableIn (now (s .entry)) counts)) (now (s .entry)) ⌝ }
+{
+    let r = node_record(s, counts, gate);
+    redirect(s, gate as usize, records(counts), gate, flipped(2 * gate));
+    put_record(s, (gate - 1) as usize, flipped_record(r));
+}
+
+pub(crate) fn share(s: &mut [u8], counts: Counts, gate: u16, a: u16)
+    requires { ⌜ AtGate (now s) counts gate × Sharing gate a ⌝ }
+    ensures { λ _. ⌜ now (s .exit) ≡ holding (shareRule a gate (tableIn (now (s .entry)) counts)) (now (s .entry)) ⌝ }
+{
+    redirect(s, gate as usize, records(counts), gate, 2 * a);
+}
