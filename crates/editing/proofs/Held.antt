@@ -51,7 +51,7 @@ later-record r ys j =
     let p3 = at 3 in
     λ d. record { kind = p0 d; e1 = p1 d; e2 = p2 d; e3 = p3 d }
 
-encoded-at : (t : List Record) (rest : List ℕ) (j : ℕ) → j < length t → recordIn (encode t ++ rest) j ≡ recordAt t j
+pub encoded-at : (t : List Record) (rest : List ℕ) (j : ℕ) → j < length t → recordIn (encode t ++ rest) j ≡ recordAt t j
 unfolding encode
 encoded-at [] rest j h = absurd (omega arith)
 encoded-at (r ∷ t) rest zero h = first-record r (encode t ++ rest)

@@ -12,3 +12,6 @@ pub mod Storing
 pub mod Fits
 pub mod Taking
 pub mod Replies
+pub mod Onward
+pub mod Turns
+pub mod Scripts

@@ -1,8 +1,9 @@
 -- What a step replies and leaves, from the check and from what was applied.
-use Prim.Native.Nat.{ℕ, _+_, _*_, _/_, _≤_}
+use Prim.Native.Nat.{ℕ, _+_, _*_, _/_, _%_, _≤_}
 use mathlib.Core.Path.{_≡_, refl, sym, ap, _∙_}
 use mathlib.Core.List.{List}
 use native.Mathlib.Omega.{arith}
+use borrow.Author.Tests.{eq-eqb, le-ltb}
 use lib.ListN.{length}
 use Rattle.majority.specs.Check.{Reply, accepted, refused, andThen, count}
 use Rattle.majority.specs.Step.{step}
@@ -10,14 +11,14 @@ use Rattle.majority.specs.declared.Record.{Record}
 use Rattle.majority.specs.declared.Counts.{Counts}
 use Rattle.majority.proofs.Steps.{step-kept, step-gates}
 use Rattle.tables.specs.Calls.{checkOf}
-use Rattle.tables.specs.Worths.{Sound, tableIn}
+use Rattle.tables.specs.Worths.{Sound}
 use Rattle.tables.specs.Said.{refusalNumber, refusalRecord, saidCheck}
 use Rattle.tables.specs.declared.Refusal.{Refusal}
 use Rattle.tables.specs.declared.Checked.{Checked}
-use Rattle.tables.specs.declared.Checked.the-variants.{Accepted, Refused}
+use Rattle.tables.specs.declared.Checked.the-variants.{Refused}
 use Rattle.tables.proofs.Worths.{sound-accepted}
-use Rattle.tables.proofs.After.{checked-length, after-accepted, after-refused}
-use Rattle.rewriting.specs.Applied.{afterReply, usedBy, stepIn, saidApplied, AppliedTo}
+use Rattle.tables.proofs.After.{after-refused}
+use Rattle.rewriting.specs.Applied.{usedBy, stepIn, saidApplied, AppliedTo}
 use Rattle.rewriting.specs.Calls.{stepTable, stepOf, stepBytes}
 use Rattle.rewriting.specs.declared.Applied.{Applied}
 use Rattle.rewriting.specs.declared.Applied.the-variants.{Taken as AppliedTaken, Refused as AppliedRefused}
@@ -57,42 +58,42 @@ not-taken (refused j h) f k i e =
     let q : h ≡ i = cc in
     rw (p, q)
 
-module _ (xs : List ℕ) (used : ℕ) (r : Checked) (said : saidCheck r ≡ checkOf xs used) (rule g a b : ℕ) where
-  abbrev by : List Record → Counts → Reply (List Record)
-  by rs c = step (length xs) (c .inputs) (c .gates) rs rule g a b
+-- a sound table is accepted at its own length
+pub sound-checked : {xs : List ℕ} {c : Counts} → Sound xs c → checkOf xs (usedBy c) ≡ accepted c
+unfolding checkOf
+sound-checked {xs} {c} sound =
+    let whole : usedBy c % 8 ≡ 0 = omega arith in
+    let count : usedBy c / 8 ≡ c .inputs + c .gates + c .outputs = omega arith in
+    rw (eq-eqb (usedBy c % 8) 0 whole, le-ltb (length xs) (usedBy c) (sound .fits), count) (sound .sound)
 
-  module _ {c : Counts} (is : r ≡ Accepted c) where
-    checked : checkOf xs used ≡ accepted c
-    checked = sym said ∙ ap saidCheck is
+module _ {xs : List ℕ} {c : Counts} (sound : Sound xs c) (rule g a b : ℕ) where
+  pub table-same : stepTable xs (usedBy c) rule g a b ≡ stepIn xs c rule g a b
+  unfolding stepTable
+  table-same = let count : usedBy c / 8 ≡ c .inputs + c .gates + c .outputs = omega arith in rw (sound-checked sound, count)
 
-    table-same : stepTable xs used rule g a b ≡ stepIn xs c rule g a b
-    unfolding stepTable
-    table-same = after-accepted xs used by r said c is
+  pub step-leaves : {done : Applied} {ys : List ℕ} → AppliedTo xs c rule g a b done ys → ys ≡ stepBytes xs (usedBy c) rule g a b
+  unfolding stepBytes
+  step-leaves applied = applied .bytes ∙ rw table-same
 
-    pub step-leaves : {done : Applied} {ys : List ℕ} → AppliedTo xs c rule g a b done ys → ys ≡ stepBytes xs used rule g a b
-    unfolding stepBytes
-    step-leaves applied = applied .bytes ∙ rw (table-same, checked-length xs used c checked)
+  pub step-replies : {gates : ℕ} → Made xs c rule g a b gates → stepOf xs (usedBy c) rule g a b ≡ accepted (8 * (c .inputs + gates + c .outputs))
+  unfolding stepOf
+  step-replies m = rw (table-same, m .is, m .long)
 
-    pub step-replies : {gates : ℕ} → Made xs c rule g a b gates → stepOf xs used rule g a b ≡ accepted (8 * (c .inputs + gates + c .outputs))
-    unfolding stepOf
-    step-replies m = rw (table-same, m .is, m .long)
+  pub step-refuses : {done : Applied} {ys : List ℕ} (refusal : Refusal) → AppliedTo xs c rule g a b done ys → done ≡ AppliedRefused refusal
+      → stepOf xs (usedBy c) rule g a b ≡ refused (refusalNumber refusal) (refusalRecord refusal)
+  unfolding stepOf
+  step-refuses refusal applied e = rw (table-same, not-taken (stepIn xs c rule g a b) (count 2) _ _ (ap saidApplied (sym e) ∙ applied .reply))
 
-    pub step-refuses : {done : Applied} {ys : List ℕ} (refusal : Refusal) → AppliedTo xs c rule g a b done ys → done ≡ AppliedRefused refusal
-        → stepOf xs used rule g a b ≡ refused (refusalNumber refusal) (refusalRecord refusal)
-    unfolding stepOf
-    step-refuses refusal applied e =
-        rw (table-same, not-taken (stepIn xs c rule g a b) (count 2) _ _ (ap saidApplied (sym e) ∙ applied .reply))
+-- where the table is refused
+module _ (xs : List ℕ) (used : ℕ) (r : Checked) (said : saidCheck r ≡ checkOf xs used) (rule g a b : ℕ) (refusal : Refusal) (is : r ≡ Refused refusal) where
+  table-refused : stepTable xs used rule g a b ≡ refused (refusalNumber refusal) (refusalRecord refusal)
+  unfolding stepTable
+  table-refused = after-refused xs used (λ (rs : List Record) (c : Counts). step (length xs) (c .inputs) (c .gates) rs rule g a b) r said refusal is
 
-  -- where the table is refused
-  module _ (refusal : Refusal) (is : r ≡ Refused refusal) where
-    table-refused : stepTable xs used rule g a b ≡ refused (refusalNumber refusal) (refusalRecord refusal)
-    unfolding stepTable
-    table-refused = after-refused xs used by r said refusal is
+  pub refused-replies : stepOf xs used rule g a b ≡ refused (refusalNumber refusal) (refusalRecord refusal)
+  unfolding stepOf
+  refused-replies = rw table-refused
 
-    pub refused-replies : stepOf xs used rule g a b ≡ refused (refusalNumber refusal) (refusalRecord refusal)
-    unfolding stepOf
-    refused-replies = rw table-refused
-
-    pub refused-leaves : stepBytes xs used rule g a b ≡ xs
-    unfolding stepBytes
-    refused-leaves = rw table-refused
+  pub refused-leaves : stepBytes xs used rule g a b ≡ xs
+  unfolding stepBytes
+  refused-leaves = rw table-refused

@@ -1,5 +1,5 @@
 -- Scripts (SPEC 5.5): steps are taken in order until one is refused, each with the used length that the one before replied.
-use Prim.Native.Nat.{ℕ, _+_, _/_, _%_}
+use Prim.Native.Nat.{ℕ, _+_, _-_, _/_, _%_}
 use mathlib.Core.Bool.{not}
 use mathlib.Core.List.{List, [], _∷_}
 use lib.Dec.{eqb}
@@ -11,10 +11,13 @@ use Rattle.majority.specs.declared.Counts.{Counts}
 use Rattle.tables.specs.Bytes.{tableOf}
 use Rattle.tables.specs.Calls.{checkOf}
 use Rattle.tables.specs.Said.{refusalNumber, refusalRecord}
+use Rattle.tables.specs.declared.Refusal.{Refusal}
 use Rattle.rewriting.specs.Calls.{stepOf, stepBytes}
 use Rattle.rewriting.specs.declared.Ending.{Ending}
 use Rattle.rewriting.specs.declared.Ending.the-variants.{Finished, Stopped}
 use Rattle.rewriting.specs.declared.Progress.{Progress}
+use Rattle.rewriting.specs.declared.Stepped.{Stepped}
+use Rattle.rewriting.specs.declared.Stepped.the-variants.{Used, Refused}
 
 -- how a script ended: with no refusal, or with the refusal of this number and the record that it carries
 pub data End : Type 0 where
@@ -72,3 +75,16 @@ saidEnd (Stopped r) = stopped (refusalNumber r) (refusalRecord r)
 -- the run of which p is the reply and ys are the bytes
 abbrev pub runOf : Progress → List ℕ → Run
 runOf p ys = record { taken = p .taken; end = saidEnd (p .ending); used = p .used; bytes = ys }
+
+-- one step more: it counts and gives the used length, or stops the script
+abbrev pub progressAfter : Progress → Stepped → Progress
+progressAfter p (Used n) = record { taken = p .taken + 1; used = n; ending = Finished }
+progressAfter p (Refused r) = record { taken = p .taken; used = p .used; ending = Stopped r }
+
+-- the counts of a table of this used length, with the inputs and outputs of c
+abbrev pub countsAt : Counts → ℕ → Counts
+countsAt c used = record { inputs = c .inputs; gates = used / 8 - c .inputs - c .outputs; outputs = c .outputs }
+
+-- the progress of a script of which no step was taken
+abbrev pub stoppedBy : ℕ → Refusal → Progress
+stoppedBy used r = record { taken = 0; used = used; ending = Stopped r }

@@ -1,5 +1,6 @@
 // One step on a table that was checked.
 use crate::Applied;
+use crate::Stepped;
 use crate::fields::ASSOCIATIVITY;
 use crate::fields::EXCHANGE;
 use crate::fields::INVERSION;
@@ -25,7 +26,8 @@ use tables::Refusal;
 ghost use mathlib.Core.Path.{_≡_};
 ghost use Rattle.tables.specs.Worths.{Sound};
 ghost use Rattle.rewriting.specs.Ready.{Fitting};
-ghost use Rattle.rewriting.specs.Applied.{Rewritten, AppliedTo};
+ghost use Rattle.rewriting.specs.Applied.{usedBy, Rewritten, AppliedTo};
+ghost use Rattle.rewriting.specs.Calls.{saidStep, stepOf, stepBytes};
 
 // Rewrites by a rule that fits; answers how many gates there are then.
 fn rewrite(s: &mut [u8], counts: Counts, rule: u16, gate: u16, a: u16, b: u16) -> usize
@@ -64,7 +66,7 @@ fn rewrite(s: &mut [u8], counts: Counts, rule: u16, gate: u16, a: u16, b: u16) -
 }
 
 // Applies one step: refusals 7 to 11 in their order, or the rule's edit.
-pub(crate) fn apply(s: &mut [u8], counts: Counts, rule: u16, gate: u16, a: u16, b: u16) -> Applied
+fn apply(s: &mut [u8], counts: Counts, rule: u16, gate: u16, a: u16, b: u16) -> Applied
     requires { ⌜ Sound (now s) counts ⌝ }
     ensures { λ r. ⌜ AppliedTo (now (s .entry)) counts rule gate a b r (now (s .exit)) ⌝ }
 {
@@ -85,4 +87,16 @@ pub(crate) fn apply(s: &mut [u8], counts: Counts, rule: u16, gate: u16, a: u16, 
         return Applied::Refused(Refusal::Room);
     }
     Applied::Taken(rewrite(s, counts, rule, gate, a, b))
+}
+
+// Takes one step on a table that was checked; answers the new used length, or the refusal.
+pub(crate) fn take(s: &mut [u8], counts: Counts, rule: u16, gate: u16, a: u16, b: u16) -> Stepped
+    requires { ⌜ Sound (now s) counts ⌝ }
+    ensures reply { λ r. ⌜ saidStep r ≡ stepOf (now (s .entry)) (usedBy counts) rule gate a b ⌝ }
+    ensures bytes { λ _. ⌜ now (s .exit) ≡ stepBytes (now (s .entry)) (usedBy counts) rule gate a b ⌝ }
+{
+    match apply(s, counts, rule, gate, a, b) {
+        Applied::Taken(gates) => Stepped::Used(8 * (counts.inputs + gates + counts.outputs)),
+        Applied::Refused(refusal) => Stepped::Refused(refusal),
+    }
 }

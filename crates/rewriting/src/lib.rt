@@ -1,17 +1,21 @@
-// Steps on a table in a lent slice.
+// Steps and scripts on a table in a lent slice.
 mod applying;
 mod fields;
 mod forms;
 mod rules;
+mod running;
 mod sweeping;
 
-use applying::apply;
-use majority::Counts;
+use applying::take;
+use running::run;
+use running::stopped;
 use tables::Checked;
 use tables::Refusal;
 use tables::check;
 ghost use mathlib.Core.Path.{_≡_};
+ghost use Prim.Native.Nat.{_<_};
 ghost use Rattle.rewriting.specs.Calls.{saidStep, stepOf, stepBytes};
+ghost use Rattle.rewriting.specs.Script.{progressAfter, runOf, scriptRun};
 
 // What a step replies: the new used length, or the refusal.
 pub enum Stepped {
@@ -38,20 +42,49 @@ pub(crate) enum Applied {
     Refused(Refusal),
 }
 
+impl Progress {
+    // The progress after one step more: its count and used length, or its refusal.
+    pub(crate) fn after(self, outcome: Stepped) -> Progress
+        requires { ⌜ self .taken < 18446744073709551615 ⌝ }
+        ensures { λ r. ⌜ r ≡ progressAfter self outcome ⌝ }
+    {
+        match outcome {
+            Stepped::Used(used) => Progress {
+                taken: self.taken + 1,
+                used,
+                ending: Ending::Finished,
+            },
+            Stepped::Refused(refusal) => Progress {
+                taken: self.taken,
+                used: self.used,
+                ending: Ending::Stopped(refusal),
+            },
+        }
+    }
+}
+
 // Applies one step to the table in the first used bytes of s.
 pub fn step(s: &mut [u8], used: usize, rule: u16, gate: u16, a: u16, b: u16) -> Stepped
     ensures reply { λ r. ⌜ saidStep r ≡ stepOf (now (s .entry)) used rule gate a b ⌝ }
     ensures bytes { λ _. ⌜ now (s .exit) ≡ stepBytes (now (s .entry)) used rule gate a b ⌝ }
 {
     match check(s, used) {
-        Checked::Accepted(counts) => {
-            match apply(s, counts, rule, gate, a, b) {
-                Applied::Taken(gates) => {
-                    Stepped::Used(8 * (counts.inputs + gates + counts.outputs))
-                }
-                Applied::Refused(refusal) => Stepped::Refused(refusal),
-            }
-        }
+        Checked::Accepted(counts) => take(s, counts, rule, gate, a, b),
         Checked::Refused(refusal) => Stepped::Refused(refusal),
+    }
+}
+
+// Takes the steps of a script in order until one is refused. The table is checked once.
+pub fn script(s: &mut [u8], used: usize, steps: &[u8]) -> Progress
+    ensures { λ r. ⌜ runOf r (now (s .exit)) ≡ scriptRun (now (s .entry)) used (now (steps .entry)) ⌝ }
+{
+    match check(s, used) {
+        Checked::Accepted(counts) => {
+            if steps.len() % 8 != 0 {
+                return stopped(used, Refusal::Script);
+            }
+            run(s, counts, steps)
+        }
+        Checked::Refused(refusal) => stopped(used, refusal),
     }
 }

@@ -1,0 +1,27 @@
+-- What a script is, from the check of its table and from the length of its bytes.
+use Prim.Native.Nat.{ℕ, _%_}
+use mathlib.Core.Path.{_≡_, sym}
+use mathlib.Core.List.{List}
+use borrow.Author.Tests.{eq-eqb, ne-eqb}
+use lib.ListN.{length}
+use Rattle.majority.specs.declared.Counts.{Counts}
+use Rattle.tables.specs.Calls.{checkOf}
+use Rattle.tables.specs.Said.{refusalNumber, refusalRecord, saidCheck}
+use Rattle.tables.specs.declared.Refusal.{Refusal}
+use Rattle.tables.specs.declared.Checked.{Checked}
+use Rattle.tables.specs.declared.Checked.the-variants.{Accepted, Refused}
+use Rattle.rewriting.specs.Script.{scriptRun, runFrom, stepsOf, untaken}
+
+module _ (xs : List ℕ) (used : ℕ) (steps : List ℕ) (r : Checked) (said : saidCheck r ≡ checkOf xs used) where
+  module _ (c : Counts) (is : r ≡ Accepted c) where
+    pub script-uneven : (length steps % 8 ≡ 0 → ⊥) → scriptRun xs used steps ≡ untaken 12 0 xs used
+    unfolding scriptRun
+    script-uneven odd = rw (sym said, is, ne-eqb (length steps % 8) 0 odd)
+
+    pub script-runs : length steps % 8 ≡ 0 → scriptRun xs used steps ≡ runFrom 0 xs used (stepsOf steps)
+    unfolding scriptRun
+    script-runs even = rw (sym said, is, eq-eqb (length steps % 8) 0 even)
+
+  pub script-refused : (refusal : Refusal) → r ≡ Refused refusal → scriptRun xs used steps ≡ untaken (refusalNumber refusal) (refusalRecord refusal) xs used
+  unfolding scriptRun
+  script-refused refusal is = rw (sym said, is)

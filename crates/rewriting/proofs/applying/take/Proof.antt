@@ -1,0 +1,59 @@
+-- `applying::take` meets its contract: what was applied, as the step's reply and bytes.
+use borrow.Author.Needs.{needs}
+use mathlib.Core.Path.{_≡_, refl, sym, ap, _∙_}
+use native.Mathlib.Omega.{arith}
+use Rattle.tables.proofs.Worths.{sound-accepted}
+use Rattle.rewriting.proofs.Replies.{taken-made, step-leaves, step-replies, step-refuses}
+use Rattle.rewriting.proofs.applying.take.Statement.{statement}
+use Rattle.rewriting.proofs.applying.take.Tie as tie
+
+apply-requires : tie.Need-apply-requires
+apply-requires c κs = search needs
+
+enum-known-gates : tie.Need-enum-known-gates
+enum-known-gates c = search needs
+
+add-t13 : tie.Need-add-t13
+add-t13 c = let m = taken-made (c .before .before .before .before .before .before .before .before .before .pre) _ _ _ _ _ (c .before .before .before .before .before .before .apply .ensures) (c .before .before .gates .given .1) in
+    let l = sound-accepted (c .before .before .before .before .before .before .before .before .before .pre) .limits in
+    omega (arith, m .few)
+
+add-t14 : tie.Need-add-t14
+add-t14 c = let m = taken-made (c .before .before .before .before .before .before .before .before .before .before .pre) _ _ _ _ _ (c .before .before .before .before .before .before .before .apply .ensures) (c .before .before .before .gates .given .1) in
+    let l = sound-accepted (c .before .before .before .before .before .before .before .before .before .before .pre) .limits in
+    omega (arith, m .few)
+
+mul-t15 : tie.Need-mul-t15
+mul-t15 c = let m = taken-made (c .before .before .before .before .before .before .before .before .before .before .pre) _ _ _ _ _ (c .before .before .before .before .before .before .before .apply .ensures) (c .before .before .before .gates .given .1) in
+    let l = sound-accepted (c .before .before .before .before .before .before .before .before .before .before .pre) .limits in
+    omega (arith, m .few)
+
+enum-known-refusal : tie.Need-enum-known-refusal
+enum-known-refusal c = search needs
+
+same-length : tie.Need-same-length
+same-length c = search needs
+
+returns : tie.Need-returns
+returns c = (sym (step-replies (c .before .before .before .before .before .before .before .before .before .before .pre) _ _ _ _ (taken-made (c .before .before .before .before .before .before .before .before .before .before .pre) _ _ _ _ _ (c .before .before .before .before .before .before .before .apply .ensures) (c .before .before .before .gates .given .1))), step-leaves (c .before .before .before .before .before .before .before .before .before .before .pre) _ _ _ _ (c .before .before .before .before .before .before .before .apply .ensures))
+
+same-length-2 : tie.Need-same-length-2
+same-length-2 c = search needs
+
+returns-2 : tie.Need-returns-2
+returns-2 c = (sym (step-refuses (c .before .before .before .before .before .before .before .before .pre) _ _ _ _ _ (c .before .before .before .before .before .apply .ensures) (c .before .refusal .given .1)), step-leaves (c .before .before .before .before .before .before .before .before .pre) _ _ _ _ (c .before .before .before .before .before .apply .ensures))
+
+pub take-spec : {M : Type 1} → statement M
+take-spec =
+    tie.close
+    (tie.spec
+    apply-requires
+    enum-known-gates
+    add-t13
+    add-t14
+    mul-t15
+    enum-known-refusal
+    same-length
+    returns
+    same-length-2
+    returns-2)

@@ -1,0 +1,73 @@
+// A script on a table that was checked.
+use crate::Ending;
+use crate::Progress;
+use crate::applying::take;
+use majority::Counts;
+use tables::Refusal;
+use tables::record_at;
+ghost use mathlib.Core.Path.{_≡_};
+ghost use Rattle.tables.specs.Worths.{Sound};
+ghost use Rattle.rewriting.specs.Applied.{usedBy};
+ghost use Rattle.rewriting.specs.Script.{stepsOf, runFrom, runOf, stoppedBy, countsAt};
+
+// The progress of a script of which no step was taken.
+pub(crate) fn stopped(used: usize, refusal: Refusal) -> Progress
+    ensures { λ r. ⌜ r ≡ stoppedBy used refusal ⌝ }
+{
+    Progress {
+        taken: 0,
+        used,
+        ending: Ending::Stopped(refusal),
+    }
+}
+
+// The counts of a table of this used length, with the inputs and outputs of these.
+fn counts_at(counts: Counts, used: usize) -> Counts
+    requires { ⌜ usedBy (countsAt counts used) ≡ used ⌝ }
+    ensures { λ r. ⌜ r ≡ countsAt counts used ⌝ }
+{
+    Counts {
+        inputs: counts.inputs,
+        gates: used / 8 - counts.inputs - counts.outputs,
+        outputs: counts.outputs,
+    }
+}
+
+// Takes the steps until one is refused.
+pub(crate) fn run(s: &mut [u8], counts: Counts, steps: &[u8]) -> Progress
+    requires { ⌜ Sound (now s) counts ⌝ }
+    ensures { λ r. ⌜ runOf r (now (s .exit)) ≡ runFrom 0 (now (s .entry)) (usedBy counts) (stepsOf (now (steps .entry))) ⌝ }
+{
+    let mut progress = Progress {
+        taken: 0,
+        used: 8 * (counts.inputs + counts.gates + counts.outputs),
+        ending: Ending::Finished,
+    };
+    let n = steps.len() / 8;
+    let mut i = 0;
+    let done = loop {
+        if n <= i {
+            break progress;
+        }
+        let used = progress.used;
+        let step = record_at(steps, i);
+        let outcome = take(
+            s,
+            counts_at(counts, used),
+            step.kind,
+            step.e1,
+            step.e2,
+            step.e3,
+        );
+        progress = progress.after(outcome);
+        let ending = progress.ending;
+        match ending {
+            Ending::Finished => {}
+            Ending::Stopped(_) => {
+                break progress;
+            }
+        }
+        i += 1;
+    };
+    done
+}
