@@ -1,0 +1,3 @@
+pub mod OneStep
+pub mod OneScript
+pub mod Demand3

@@ -1,0 +1,60 @@
+-- A script takes a buffer that holds an accepted table to another such buffer; depth rises by at most one for each step of rules 3, 4 and 5 taken.
+use Prim.Native.Nat.{ℕ, zero, suc, _+_, _%_}
+use mathlib.Core.Path.{_≡_, refl, ap, _∙_}
+use mathlib.Core.Bool.{Bool, true, false, not}
+use mathlib.Core.List.{List, [], _∷_}
+use native.Mathlib.Omega.{arith}
+use lib.Dec.{eqb}
+use lib.ListN.{length, take}
+use Rattle.majority.specs.If.{if_then_else_}
+use Rattle.majority.specs.Check.{Reply, accepted, refused}
+use Rattle.majority.specs.Step.{deepens}
+use Rattle.majority.specs.declared.Record.{Record}
+use Rattle.majority.proofs.Kept.{kept-then}
+use Rattle.tables.specs.Calls.{checkOf}
+use Rattle.rewriting.specs.Script.{Run, stopped, stepsOf, replyTo, bytesAfter, byReply, runFrom, untaken, scriptRun}
+use Rattle.demands.specs.Demand3.{counts, deepening, deepeningTaken}
+use Rattle.demands.proofs.OneStep.{Between, between-same, between-step}
+
+-- one after another
+pub between-then : {δ ε n m o : ℕ} {xs ys zs : List ℕ} {a b c : ℕ} (p : Between δ n m o xs a ys b) → Between ε n (p .gates) o ys b zs c → Between (δ + ε) n m o xs a zs c
+between-then p q = record { gates = q .gates; holds = q .holds; kept = kept-then (p .kept) (q .kept) }
+
+-- the run took the first `more` of the steps, where `taken` were taken before
+record Ran (taken n m o : ℕ) (xs : List ℕ) (used : ℕ) (steps : List Record) (run : Run) : Type 0 where
+  more : ℕ
+  adds : run .taken ≡ taken + more
+  between : Between (deepening (take more steps)) n m o xs used (run .bytes) (run .used)
+
+-- no step is taken
+ran-none : (taken n m o : ℕ) (xs : List ℕ) (used : ℕ) (steps : List Record) (run : Run) → checkOf xs used ≡ accepted (counts n m o)
+    → run .taken ≡ taken → run .bytes ≡ xs → run .used ≡ used → Ran taken n m o xs used steps run
+unfolding deepening
+ran-none taken n m o xs used steps run is t b u = record { more = 0; adds = omega arith; between = rw (b, u) (between-same xs used n m o is) }
+
+ran : (steps : List Record) (taken n m o : ℕ) (xs : List ℕ) (used : ℕ) → checkOf xs used ≡ accepted (counts n m o) → Ran taken n m o xs used steps (runFrom taken xs used steps)
+unfolding runFrom deepening
+ran [] taken n m o xs used is = ran-none taken n m o xs used [] _ is refl refl refl
+ran (r ∷ steps) taken n m o xs used is = go (replyTo xs used r) refl (λ m′ ys next is′. ran steps (taken + 1) n m′ o ys next is′)
+  where
+    go : (reply : Reply ℕ) → replyTo xs used r ≡ reply
+        → ((m′ : ℕ) (ys : List ℕ) (next : ℕ) → checkOf ys next ≡ accepted (counts n m′ o) → Ran (taken + 1) n m′ o ys next steps (runFrom (taken + 1) ys next steps))
+        → Ran taken n m o xs used (r ∷ steps) (byReply reply (λ next. runFrom (taken + 1) (bytesAfter xs used r) next steps) (λ k i. record { taken = taken; end = stopped k i; used = used; bytes = xs }))
+    go (accepted next) e rest =
+        let p = between-step xs used n m o is r next e in
+        let q = rest (p .gates) (bytesAfter xs used r) next (p .holds) in
+        record { more = suc (q .more); adds = omega (arith, q .adds); between = between-then p (q .between) }
+    go (refused k i) e rest = ran-none taken n m o xs used (r ∷ steps) _ is refl refl refl
+
+-- a script, whatever it is
+module _ (xs : List ℕ) (used n m o : ℕ) (is : checkOf xs used ≡ accepted (counts n m o)) (script : List ℕ) where
+  whole : Ran 0 n m o xs used (stepsOf script) (scriptRun xs used script)
+  unfolding scriptRun
+  whole = rw is (go (not (eqb (length script % 8) 0)))
+    where
+      go : (odd : Bool) → Ran 0 n m o xs used (stepsOf script) (if odd then untaken 12 0 xs used else runFrom 0 xs used (stepsOf script))
+      go true = ran-none 0 n m o xs used (stepsOf script) _ is refl refl refl
+      go false = ran (stepsOf script) 0 n m o xs used is
+
+  pub between-script : Between (deepeningTaken script (scriptRun xs used script)) n m o xs used (scriptRun xs used script .bytes) (scriptRun xs used script .used)
+  between-script = let e : scriptRun xs used script .taken ≡ whole .more = omega (arith, whole .adds) in rw e (whole .between)

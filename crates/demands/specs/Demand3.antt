@@ -1,0 +1,65 @@
+-- What rewriting keeps (SPEC 5.6): take an accepted table, and run any scripts on it one after another.
+use Prim.Native.Nat.{ℕ, _+_, _/_, _≤_, _<_}
+use mathlib.Core.Path.{_≡_}
+use mathlib.Core.List.{List, [], _∷_}
+use lib.ListN.{take}
+use Rattle.majority.specs.Table.{Below, WellFormed}
+use Rattle.majority.specs.Value.{outputValue}
+use Rattle.majority.specs.Level.{depth}
+use Rattle.majority.specs.Check.{accepted}
+use Rattle.majority.specs.Edit.{nodeRecord}
+use Rattle.majority.specs.Step.{deepens}
+use Rattle.majority.specs.declared.Record.{Record}
+use Rattle.majority.specs.declared.Counts.{Counts}
+use Rattle.tables.specs.Bytes.{tableOf}
+use Rattle.tables.specs.Calls.{checkOf}
+use Rattle.rewriting.specs.Script.{Run, stepsOf, scriptRun}
+
+-- how many of these steps are of associativity or distributivity, rules 3, 4 and 5
+unfoldable pub deepening : List Record → ℕ
+deepening [] = 0
+deepening (r ∷ rs) = deepens (r .kind) + deepening rs
+
+-- how many of them a script took: it took the first `taken` of its steps
+abbrev pub deepeningTaken : List ℕ → Run → ℕ
+deepeningTaken script run = deepening (take (run .taken) (stepsOf script))
+
+-- what scripts leave: the bytes, the used length, and how many steps of rules 3, 4 and 5 they took
+pub record After : Type 0 where
+  pub bytes : List ℕ
+  pub used : ℕ
+  pub deepened : ℕ
+
+-- the scripts, one after another, on the buffer xs: each after the first has the bytes that the one before left and the used length that it replied, however it ended
+unfoldable pub runScripts : List ℕ → ℕ → List (List ℕ) → After
+runScripts xs used [] = record { bytes = xs; used = used; deepened = 0 }
+runScripts xs used (script ∷ scripts) =
+    let run = scriptRun xs used script in
+    let rest = runScripts (run .bytes) (run .used) scripts in
+    record { bytes = rest .bytes; used = rest .used; deepened = deepeningTaken script run + rest .deepened }
+
+-- the counts as one value
+abbrev pub counts : ℕ → ℕ → ℕ → Counts
+counts n m o = record { inputs = n; gates = m; outputs = o }
+
+-- from a first table of n inputs, m gates and o outputs to what scripts leave
+pub record Keeps (n m o : ℕ) (first : List Record) (after : After) : Type 0 where
+  -- how many gates there are now
+  pub gates : ℕ
+  -- the buffer still holds an accepted table, with as many inputs and outputs as at first
+  pub holds : checkOf (after .bytes) (after .used) ≡ accepted (counts n gates o)
+  -- it is well formed
+  pub formed : WellFormed n gates o (tableOf (after .bytes) (after .used / 8))
+  -- every gate still reads only lower nodes
+  pub lower : (g : ℕ) → n < g → g ≤ n + gates → Below g (nodeRecord (tableOf (after .bytes) (after .used / 8)) g)
+  -- each output has its first value under each assignment
+  pub outputs : (a j : ℕ) → j < o → outputValue a n gates (tableOf (after .bytes) (after .used / 8)) j ≡ outputValue a n m first j
+  -- depth has risen by at most one for each step of rules 3, 4 and 5 taken
+  pub deep : depth n gates (tableOf (after .bytes) (after .used / 8)) ≤ depth n m first + after .deepened
+
+-- for every buffer, used length and scripts: where the first check accepts, all this is kept
+unfoldable pub Demand3 : Type 0
+Demand3 =
+    (xs : List ℕ) (used : ℕ) (scripts : List (List ℕ)) (n m o : ℕ)
+    → checkOf xs used ≡ accepted (counts n m o)
+    → Keeps n m o (tableOf xs (used / 8)) (runScripts xs used scripts)
