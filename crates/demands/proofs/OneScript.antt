@@ -1,6 +1,6 @@
 -- A script takes a buffer that holds an accepted table to another such buffer; depth rises by at most one for each step of rules 3, 4 and 5 taken.
-use Prim.Native.Nat.{ℕ, zero, suc, _+_, _%_}
-use mathlib.Core.Path.{_≡_, refl, ap, _∙_}
+use Prim.Native.Nat.{ℕ, suc, _+_, _%_}
+use mathlib.Core.Path.{_≡_, refl}
 use mathlib.Core.Bool.{Bool, true, false, not}
 use mathlib.Core.List.{List, [], _∷_}
 use native.Mathlib.Omega.{arith}
@@ -8,7 +8,6 @@ use lib.Dec.{eqb}
 use lib.ListN.{length, take}
 use Rattle.majority.specs.If.{if_then_else_}
 use Rattle.majority.specs.Check.{Reply, accepted, refused}
-use Rattle.majority.specs.Step.{deepens}
 use Rattle.majority.specs.declared.Record.{Record}
 use Rattle.majority.proofs.Kept.{kept-then}
 use Rattle.tables.specs.Calls.{checkOf}

@@ -1,18 +1,16 @@
 -- One step takes a buffer that holds an accepted table to another such buffer, and keeps what it must between the two tables.
 use Prim.Native.Nat.{ℕ, _*_, _/_, _%_, _≤_, _<_}
-use mathlib.Core.Path.{_≡_, refl, sym, ap, _∙_}
+use mathlib.Core.Path.{_≡_, refl, sym, _∙_}
 use mathlib.Core.List.{List}
 use native.Mathlib.Omega.{arith}
 use borrow.Author.Tests.{le-ltb, eq-eqb}
-use lib.Dec.{ltb, eqb}
 use lib.ListN.{length, length-append, length-drop, length-replicate}
 use lib.Seq.{ext-getD}
-use Rattle.majority.specs.Table.{blank, recordAt}
+use Rattle.majority.specs.Table.{blank}
 use Rattle.majority.specs.Kept.{Kept}
 use Rattle.majority.specs.Check.{Reply, accepted, refused, andThen, checkRecords, count}
 use Rattle.majority.specs.Step.{step, deepens}
 use Rattle.majority.specs.declared.Record.{Record}
-use Rattle.majority.specs.declared.Counts.{Counts}
 use Rattle.majority.proofs.Accepted.{Accepted, acceptance, accepts}
 use Rattle.majority.proofs.Kept.{kept-same}
 use Rattle.majority.proofs.Steps.{step-kept, step-fits, step-accepted}

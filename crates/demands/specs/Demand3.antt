@@ -30,6 +30,10 @@ pub record After : Type 0 where
   pub used : ℕ
   pub deepened : ℕ
 
+-- the table that they leave
+abbrev pub tableAfter : After → List Record
+tableAfter after = tableOf (after .bytes) (after .used / 8)
+
 -- the scripts, one after another, on the buffer xs: each after the first has the bytes that the one before left and the used length that it replied, however it ended
 unfoldable pub runScripts : List ℕ → ℕ → List (List ℕ) → After
 runScripts xs used [] = record { bytes = xs; used = used; deepened = 0 }
@@ -49,13 +53,13 @@ pub record Keeps (n m o : ℕ) (first : List Record) (after : After) : Type 0 wh
   -- the buffer still holds an accepted table, with as many inputs and outputs as at first
   pub holds : checkOf (after .bytes) (after .used) ≡ accepted (counts n gates o)
   -- it is well formed
-  pub formed : WellFormed n gates o (tableOf (after .bytes) (after .used / 8))
+  pub formed : WellFormed n gates o (tableAfter after)
   -- every gate still reads only lower nodes
-  pub lower : (g : ℕ) → n < g → g ≤ n + gates → Below g (nodeRecord (tableOf (after .bytes) (after .used / 8)) g)
+  pub lower : (g : ℕ) → n < g → g ≤ n + gates → Below g (nodeRecord (tableAfter after) g)
   -- each output has its first value under each assignment
-  pub outputs : (a j : ℕ) → j < o → outputValue a n gates (tableOf (after .bytes) (after .used / 8)) j ≡ outputValue a n m first j
+  pub outputs : (a j : ℕ) → j < o → outputValue a n gates (tableAfter after) j ≡ outputValue a n m first j
   -- depth has risen by at most one for each step of rules 3, 4 and 5 taken
-  pub deep : depth n gates (tableOf (after .bytes) (after .used / 8)) ≤ depth n m first + after .deepened
+  pub deep : depth n gates (tableAfter after) ≤ depth n m first + after .deepened
 
 -- for every buffer, used length and scripts: where the first check accepts, all this is kept
 unfoldable pub Demand3 : Type 0
