@@ -42,17 +42,16 @@ module _ (t : List Record) (used : ℕ) (xs : List ℕ) where
   unfolding stored
   stored-length h fits = simp (length-append, length-drop, length-replicate) (omega (arith, length-encode t))
 
-  module _ (h : used ≤ length xs) (fits : 8 * length t ≤ length xs) where
-    last-table : tableOf (stored t used xs) (8 * length t / 8) ≡ t
-    last-table = let e : 8 * length t / 8 ≡ length t = omega arith in rw e stored-table
+  last-table : tableOf (stored t used xs) (8 * length t / 8) ≡ t
+  last-table = let e : 8 * length t / 8 ≡ length t = omega arith in rw e stored-table
 
-    -- and is checked as its records are
-    stored-check : checkOf (stored t used xs) (8 * length t) ≡ checkRecords t
-    unfolding checkOf
-    stored-check =
-        let e : 8 * length t % 8 ≡ 0 = omega arith in
-        let l : 8 * length t ≤ length (stored t used xs) = omega (arith, stored-length h fits) in
-        rw (eq-eqb _ _ e, le-ltb _ _ l, last-table)
+  -- and is checked as its records are
+  stored-check : used ≤ length xs → 8 * length t ≤ length xs → checkOf (stored t used xs) (8 * length t) ≡ checkRecords t
+  unfolding checkOf
+  stored-check h fits =
+      let e : 8 * length t % 8 ≡ 0 = omega arith in
+      let l : 8 * length t ≤ length (stored t used xs) = omega (arith, stored-length h fits) in
+      rw (eq-eqb _ _ e, le-ltb _ _ l, last-table)
 
 -- the table that the step r makes of that of n inputs and m gates in xs, or the refusal
 abbrev outcome : List ℕ → ℕ → ℕ → ℕ → Record → Reply (List Record)
@@ -86,7 +85,7 @@ module _ (xs : List ℕ) (used n m o : ℕ) (is : checkOf xs used ≡ accepted (
         record {
           gates = count 2 t;
           holds = stored-check t used xs h fits ∙ accepts n (count 2 t) o t (step-accepted was _ _ _ _ _ t e);
-          kept = rw (last-table t used xs h fits) (step-kept (was .formed) _ _ _ _ _ t e);
+          kept = rw (last-table t used xs) (step-kept (was .formed) _ _ _ _ _ t e);
         }
 
     -- a step that is accepted
@@ -101,3 +100,12 @@ module _ (xs : List ℕ) (used n m o : ℕ) (is : checkOf xs used ≡ accepted (
             let p : refused k i ≡ accepted next = sym (reply-is ∙ rw is′) ∙ e in
             let z : _≡_ {A = ℕ} 0 1 = cc in
             absurd (omega arith)
+
+-- a step that is refused leaves every byte, as a script that stops there has it
+pub refused-step : (xs : List ℕ) (used : ℕ) (r : Record) (k i : ℕ) → replyTo xs used r ≡ refused k i → bytesAfter xs used r ≡ xs
+unfolding stepOf stepBytes
+refused-step xs used r k i e = go (stepTable xs used (r .kind) (r .e1) (r .e2) (r .e3)) e
+  where
+    go : (reply : Reply (List Record)) → andThen reply (λ t. accepted (8 * length t)) ≡ refused k i → afterReply reply used xs ≡ xs
+    go (accepted t) p = let z : _≡_ {A = ℕ} 0 1 = cc in absurd (omega arith)
+    go (refused k′ i′) p = refl
