@@ -7,6 +7,7 @@ use input::Start;
 use input::Word;
 use libc::STDOUT_FILENO;
 use reply::Reply;
+use rewriting::Ending;
 use rewriting::Stepped;
 use tables::Checked;
 use tables::Reported;
@@ -105,6 +106,31 @@ fn step(table: &mut [u8], used: usize) -> Outcome {
     }
 }
 
+// How a script ended.
+fn ended(ending: Ending) -> Reply {
+    match ending {
+        Ending::Finished => Reply::accepted(),
+        Ending::Stopped(r) => Reply::refused(r),
+    }
+}
+
+// The steps taken and the used length, and then the table as the script left it.
+fn run(table: &mut [u8], used: usize, steps: &[u8]) -> Outcome {
+    let done = rewriting::script(table, used, steps);
+    let ending = done.ending;
+    sent_with(ended(ending).number(done.taken).number(done.used), table)
+}
+
+// Operation 5: a script, which is read here.
+fn script(table: &mut [u8], used: usize) -> Outcome {
+    let mut buffer = io::large_buffer();
+    match input::read_part(&mut buffer) {
+        Part::Bytes(n) => run(table, used, &buffer[..n]),
+        Part::Cut => Outcome::Cut,
+        Part::TooLong(n) => Outcome::TooLong(n),
+    }
+}
+
 // Answers an operation on a table, which is lent exactly as the request has it, to read or to change.
 fn on_lent(operation: u8, table: &mut [u8], used: usize) -> Outcome {
     match operation {
@@ -112,6 +138,7 @@ fn on_lent(operation: u8, table: &mut [u8], used: usize) -> Outcome {
         2 => evaluate(table, used),
         3 => report(table, used),
         4 => step(table, used),
+        5 => script(table, used),
         _ => Outcome::Unknown(operation),
     }
 }
@@ -134,7 +161,7 @@ fn answer(buffer: &mut [u8]) -> Outcome {
         return Outcome::End;
     };
     match operation {
-        1..=4 => on_table(operation, buffer),
+        1..=5 => on_table(operation, buffer),
         _ => Outcome::Unknown(operation),
     }
 }
