@@ -18,7 +18,7 @@ below-more b b′ r h low = record { first = omega (arith, low .first); second =
 pub output-below : (b : ℕ) (r : Record) → r ≡ output (r .e1) → nodeOf (r .e1) < b → Below b r
 output-below b r is h = record { first = h; second = rw is (omega arith); third = rw is (omega arith) }
 
-kind-two : {A : Type 0} (k : ℕ) (i g o d : A) → k ≡ 2 → byKind k i g o d ≡ g
+pub kind-two : {A : Type 0} (k : ℕ) (i g o d : A) → k ≡ 2 → byKind k i g o d ≡ g
 kind-two k i g o d e = rw e
 
 -- a gate's record, and an output's, as they are worth

@@ -11,3 +11,6 @@ pub mod Edit
 pub mod Sweep
 pub mod Rules
 pub mod Step
+pub mod Rm3
+pub mod Translate
+pub mod Count3

@@ -9,6 +9,7 @@ use libc::STDOUT_FILENO;
 use reply::Reply;
 use rewriting::Ending;
 use rewriting::Stepped;
+use rm3::Translated;
 use tables::Checked;
 use tables::Reported;
 use tables::Valued;
@@ -131,6 +132,24 @@ fn script(table: &mut [u8], used: usize) -> Outcome {
     }
 }
 
+// The length of the RM3 table, and the buffer that it is written to.
+fn translate_to(table: &[u8], used: usize, out: &mut [u8]) -> Outcome {
+    match rm3::translate(table, used, out) {
+        Translated::Length(n) => sent_with(Reply::accepted().number(n), out),
+        Translated::Refused(r) => sent_with(Reply::refused(r).number(0), out),
+    }
+}
+
+// Operation 6: the RM3 table, in a buffer that is read here.
+fn translate(table: &[u8], used: usize) -> Outcome {
+    let mut buffer = io::large_buffer();
+    match input::read_part(&mut buffer) {
+        Part::Bytes(n) => translate_to(table, used, &mut buffer[..n]),
+        Part::Cut => Outcome::Cut,
+        Part::TooLong(n) => Outcome::TooLong(n),
+    }
+}
+
 // Answers an operation on a table, which is lent exactly as the request has it, to read or to change.
 fn on_lent(operation: u8, table: &mut [u8], used: usize) -> Outcome {
     match operation {
@@ -139,6 +158,7 @@ fn on_lent(operation: u8, table: &mut [u8], used: usize) -> Outcome {
         3 => report(table, used),
         4 => step(table, used),
         5 => script(table, used),
+        6 => translate(table, used),
         _ => Outcome::Unknown(operation),
     }
 }
@@ -161,7 +181,7 @@ fn answer(buffer: &mut [u8]) -> Outcome {
         return Outcome::End;
     };
     match operation {
-        1..=5 => on_table(operation, buffer),
+        1..=6 => on_table(operation, buffer),
         _ => Outcome::Unknown(operation),
     }
 }

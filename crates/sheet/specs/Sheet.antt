@@ -1,14 +1,15 @@
 -- The sheet of small tables (SPEC 8): a list of examples, each a question and the answer to it.
-use Prim.Native.Nat.{ℕ, _*_}
-use mathlib.Core.List.{List, [], _∷_, map}
+use Prim.Native.Nat.{ℕ, _*_, _/_}
+use mathlib.Core.List.{List, [], _∷_, _++_, map}
 use lib.ListN.{length, replicate}
 use Rattle.majority.specs.Table.{input, gate, output}
 use Rattle.majority.specs.Check.{Reply, accepted, refused}
 use Rattle.majority.specs.declared.Record.{Record}
 use Rattle.majority.specs.declared.Counts.{Counts}
-use Rattle.tables.specs.Bytes.{encode}
+use Rattle.tables.specs.Bytes.{encode, tableOf}
 use Rattle.tables.specs.Calls.{checkOf, evaluateOf, reportOf}
 use Rattle.tables.specs.declared.Size.{Size}
+use Rattle.rewriting.specs.Script.{Run, End, finished, scriptRun}
 
 -- what can be asked of a table
 pub data Question : Type 0 where
@@ -18,6 +19,8 @@ pub data Question : Type 0 where
   evaluate : List Record → List ℕ → Question
   -- what are its size and depth?
   report : List Record → Question
+  -- what do these steps make of it, in a buffer that has room for two gates more?
+  run : List Record → List Record → Question
 
 pub data Answer : Type 0 where
   -- accepted, with so many inputs, gates and outputs
@@ -28,6 +31,8 @@ pub data Answer : Type 0 where
   replies : List (Reply ℕ) → Answer
   -- so many gates, and this depth
   size : ℕ → ℕ → Answer
+  -- so many steps are taken and this is the end, and this table is left
+  leaves : ℕ → End → List Record → Answer
 
 abbrev pub checkAnswer : Reply Counts → Answer
 checkAnswer (accepted c) = counts (c .inputs) (c .gates) (c .outputs)
@@ -37,11 +42,15 @@ abbrev pub sizeAnswer : Reply Size → Answer
 sizeAnswer (accepted w) = size (w .gates) (w .depth)
 sizeAnswer (refused k i) = refusal k i
 
+abbrev pub runAnswer : Run → Answer
+runAnswer r = leaves (r .taken) (r .end) (tableOf (r .bytes) (r .used / 8))
+
 -- the answer, by the definitions
 abbrev pub answerTo : Question → Answer
 answerTo (check xs used) = checkAnswer (checkOf xs used)
 answerTo (evaluate rs assignments) = replies (map (evaluateOf (encode rs) (8 * length rs)) assignments)
 answerTo (report rs) = sizeAnswer (reportOf (encode rs) (8 * length rs))
+answerTo (run rs steps) = runAnswer (scriptRun (encode rs ++ replicate 16 0) (8 * length rs) (encode steps))
 
 pub record Example : Type 0 where
   pub question : Question
@@ -74,6 +83,25 @@ P2 = input ∷ input ∷ input ∷ gate 2 4 6 ∷ output 8 ∷ []
 abbrev pub P3 : List Record
 P3 = input ∷ input ∷ input ∷ gate 3 5 7 ∷ output 8 ∷ []
 
+abbrev pub P4 : List Record
+P4 = input ∷ gate 2 2 0 ∷ output 5 ∷ []
+
+abbrev pub P5 : List Record
+P5 = input ∷ gate 2 3 0 ∷ output 5 ∷ []
+
+abbrev pub P6 : List Record
+P6 = input ∷ input ∷ input ∷ input ∷ gate 6 4 8 ∷ gate 2 4 10 ∷ output 12 ∷ []
+
+abbrev pub P7 : List Record
+P7 = input ∷ input ∷ input ∷ input ∷ input ∷ gate 6 8 10 ∷ gate 2 4 12 ∷ output 14 ∷ []
+
+-- a step of a rule on a gate; rule 8 is sweep
+abbrev pub on : ℕ → ℕ → Record
+on rule g = record { kind = rule; e1 = g; e2 = 0; e3 = 0 }
+
+abbrev pub swept : Record
+swept = on 8 0
+
 -- the adder
 abbrev pub P8 : List Record
 P8 = input ∷ input ∷ input ∷ gate 2 4 6 ∷ gate 2 4 7 ∷ gate 9 10 6 ∷ output 12 ∷ output 8 ∷ []
@@ -84,6 +112,12 @@ sheet =
     ∷ evaluate P1 upTo3 ⟶ outputs (0 ∷ 0 ∷ 0 ∷ 1 ∷ [])
     ∷ evaluate P2 upTo7 ⟶ outputs (0 ∷ 0 ∷ 0 ∷ 1 ∷ 0 ∷ 1 ∷ 1 ∷ 1 ∷ [])
     ∷ evaluate P3 upTo7 ⟶ outputs (1 ∷ 1 ∷ 1 ∷ 0 ∷ 1 ∷ 0 ∷ 0 ∷ 0 ∷ [])
+    ∷ run P4 (on 2 2 ∷ []) ⟶ leaves 1 finished (input ∷ gate 2 2 0 ∷ output 3 ∷ [])
+    ∷ run P4 (on 2 2 ∷ swept ∷ []) ⟶ leaves 2 finished (input ∷ output 3 ∷ [])
+    ∷ run P5 (on 2 2 ∷ []) ⟶ leaves 1 finished (input ∷ gate 2 3 0 ∷ output 1 ∷ [])
+    ∷ run P6 (on 3 6 ∷ []) ⟶ leaves 1 finished (input ∷ input ∷ input ∷ input ∷ gate 6 4 8 ∷ gate 6 4 2 ∷ gate 8 4 12 ∷ output 14 ∷ [])
+    ∷ run P6 (on 3 6 ∷ swept ∷ []) ⟶ leaves 2 finished (input ∷ input ∷ input ∷ input ∷ gate 6 4 2 ∷ gate 8 4 10 ∷ output 12 ∷ [])
+    ∷ run P7 (on 4 7 ∷ []) ⟶ leaves 1 finished (input ∷ input ∷ input ∷ input ∷ input ∷ gate 6 8 10 ∷ gate 2 4 6 ∷ gate 2 4 8 ∷ gate 14 16 10 ∷ output 18 ∷ [])
     ∷ whole P8 ⟶ counts 3 3 2
     ∷ evaluate P8 upTo7 ⟶ outputs (0 ∷ 1 ∷ 1 ∷ 2 ∷ 1 ∷ 2 ∷ 2 ∷ 3 ∷ [])
     ∷ report P8 ⟶ size 3 2

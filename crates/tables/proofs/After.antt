@@ -26,7 +26,7 @@ module _ (xs : List ℕ) (used : ℕ) where
         let whole = acceptance _ _ _ _ (w .2) .formed .whole in
         omega (arith, w .0, length-table xs (used / 8))
 
-    checked-table : tableOf xs (used / 8) ≡ tableIn xs c
+    pub checked-table : tableOf xs (used / 8) ≡ tableIn xs c
     checked-table = let e : used / 8 ≡ c .inputs + c .gates + c .outputs = omega (arith, checked-length) in rw e
 
     pub checked-sound : Sound xs c

@@ -15,10 +15,13 @@ use Rattle.tables.specs.declared.Reported.the-variants.{Whole, Refused a
 use Rattle.tables.specs.Said.{refusalNumber, refusalRecord, saidCheck, saidValue, saidReport}
 
 -- the refusal of a number and a record
-refusalOf : ℕ → ℕ → Refusal
-refusalOf k i = if eqb k 1 then Length else if eqb k 2 then Kind i else if eqb k 3 then Count else if eqb k 4 then NotZero i else if eqb k 5 then Edge i else if eqb k 6 then Assignment else if eqb k 7 then Rule else if eqb k 8 then Field else if eqb k 9 then Form else if eqb k 10 then Gates else if eqb k 11 then Room else Script
+pub refusalOf : ℕ → ℕ → Refusal
+refusalOf k i =
+    if eqb k 1 then Length else if eqb k 2 then Kind i else if eqb k 3 then Count else if eqb k 4 then NotZero i
+    else if eqb k 5 then Edge i else if eqb k 6 then Assignment else if eqb k 7 then Rule else if eqb k 8 then Field
+    else if eqb k 9 then Form else if eqb k 10 then Gates else if eqb k 11 then Room else Script
 
-refusal-back : (r : Refusal) → refusalOf (refusalNumber r) (refusalRecord r) ≡ r
+pub refusal-back : (r : Refusal) → refusalOf (refusalNumber r) (refusalRecord r) ≡ r
 unfolding refusalOf
 refusal-back Length = refl
 refusal-back (Kind i) = refl
@@ -35,11 +38,11 @@ refusal-back Script = refl
 
 -- a reply is told apart from another where what it makes of an accepted value and of a refusal can be undone
 module _ {A E : Type 0} (yes : A → E) (no : Refusal → E) (said : E → Reply A) where
-  back : Reply A → E
+  unfoldable pub back : Reply A → E
   back (accepted x) = yes x
   back (refused k i) = no (refusalOf k i)
 
-  once : ((e : E) → back (said e) ≡ e) → (a b : E) → said a ≡ said b → a ≡ b
+  pub once : ((e : E) → back (said e) ≡ e) → (a b : E) → said a ≡ said b → a ≡ b
   once undone a b e = sym (undone a) ∙ ap back e ∙ undone b
 
 pub said-check-once : (a b : Checked) → saidCheck a ≡ saidCheck b → a ≡ b

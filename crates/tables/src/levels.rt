@@ -13,7 +13,8 @@ ghost use Rattle.majority.specs.Level.{depth as depthOf};
 ghost use Rattle.tables.specs.Calls.{sizeOf};
 ghost use Rattle.tables.specs.Worths.{Sound, tableIn, Fresh, gateLevel};
 
-fn higher(a: u16, b: u16) -> u16
+// The higher of two levels.
+pub fn higher(a: u16, b: u16) -> u16
     ensures { λ r. ⌜ r ≡ max a b ⌝ }
 {
     if a < b { b } else { a }

@@ -6,6 +6,7 @@ mod records;
 mod values;
 
 use checking::check_records;
+pub use levels::higher;
 use levels::size;
 use majority::Counts;
 pub use records::put_record;

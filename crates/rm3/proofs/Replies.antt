@@ -1,0 +1,67 @@
+-- What a reply of `translate` tells its caller: the length fits the buffer and covers inputs and outputs, and 25,344 bytes are room for any table.
+use Prim.Native.Nat.{ℕ, _+_, _*_, _/_, _≤_}
+use mathlib.Core.Path.{_≡_, refl, sym, ap, _∙_}
+use mathlib.Core.Bool.{Bool, true, false}
+use mathlib.Core.List.{List}
+use native.Mathlib.Omega.{arith}
+use borrow.Author.Tests.{ltb-false}
+use lib.Dec.{ltb}
+use lib.ListN.{length}
+use Rattle.majority.specs.If.{if_then_else_}
+use Rattle.majority.specs.Translate.{translation}
+use Rattle.majority.specs.Check.{Reply, accepted, refused, andThen}
+use Rattle.majority.specs.declared.Record.{Record}
+use Rattle.majority.specs.declared.Counts.{Counts}
+use Rattle.tables.specs.Bytes.{tableOf}
+use Rattle.tables.specs.Worths.{tableIn}
+use Rattle.tables.specs.Calls.{checkOf}
+use Rattle.tables.proofs.After.{checked-sound, checked-table}
+use Rattle.rm3.specs.Calls.{rm3In, rm3Of, inBytes, translateOf}
+use Rattle.rm3.proofs.Fitting.{fitting-size, fitting-small, fitting}
+
+-- a reply is not both
+apart : {A : Type 0} {x : A} {k i : ℕ} → _≡_ {A = Reply A} (refused k i) (accepted x) → ⊥
+apart e = let z : _≡_ {A = ℕ} 0 1 = cc in omega arith
+
+same-length : {l k : ℕ} → _≡_ {A = Reply ℕ} (accepted k) (accepted l) → k ≡ l
+same-length e = cc
+
+module _ (xs : List ℕ) (used room l : ℕ) (is : accepted l ≡ translateOf xs used room) where
+  in-room : (ts : List Record) → andThen (if ltb room (8 * length ts) then refused 11 0 else accepted ts) inBytes ≡ accepted l → l ≤ room
+  in-room ts = go (ltb room (8 * length ts)) refl
+    where
+      go : (t : Bool) → ltb room (8 * length ts) ≡ t → andThen (if t then refused 11 0 else accepted ts) inBytes ≡ accepted l → l ≤ room
+      go true q e = absurd (apart e)
+      go false q e = omega (arith, ltb-false room (8 * length ts) q, same-length e)
+
+  pub reply-fits : l ≤ room
+  unfolding translateOf rm3Of
+  reply-fits = go (checkOf xs used) (sym is)
+    where
+      go : (k : Reply Counts) → andThen (andThen k (rm3In room (tableOf xs (used / 8)))) inBytes ≡ accepted l → l ≤ room
+      go (accepted c) e = in-room (translation (c .inputs) (c .gates) (tableOf xs (used / 8))) e
+      go (refused k i) e = absurd (apart e)
+
+module _ (xs : List ℕ) (used room : ℕ) (c : Counts) (checked : checkOf xs used ≡ accepted c) where
+  abbrev ts : List Record
+  ts = translation (c .inputs) (c .gates) (tableIn xs c)
+
+  of-accepted : rm3Of xs used room ≡ rm3In room (tableIn xs c) c
+  unfolding rm3Of
+  of-accepted = rw (checked, checked-table xs used c checked)
+
+  -- the counts of the table are among the records of the reply's
+  pub reply-counts : (l : ℕ) → accepted l ≡ translateOf xs used room → c .inputs + c .outputs ≤ l / 8
+  unfolding translateOf
+  reply-counts l is = go (ltb room (8 * length ts)) (sym (is ∙ ap (λ (k : Reply (List Record)). andThen k inBytes) of-accepted))
+    where
+      go : (t : Bool) → andThen (if t then refused 11 0 else accepted ts) inBytes ≡ accepted l → c .inputs + c .outputs ≤ l / 8
+      go true e = absurd (apart e)
+      go false e = omega (arith, same-length e, fitting-size (checked-sound xs used c checked))
+
+  -- 11 is never said of a buffer of 25,344 bytes
+  pub room-enough : 25344 ≤ room → translateOf xs used room ≡ accepted (8 * length ts)
+  unfolding translateOf
+  room-enough h =
+      let sound = checked-sound xs used c checked in
+      rw (of-accepted, fitting sound room (omega (arith, fitting-small sound)))

@@ -1,0 +1,45 @@
+-- What each call replies, and the bytes that it leaves (SPEC 6).
+use Prim.Native.Nat.{ℕ, _*_, _/_}
+use mathlib.Core.List.{List, _++_}
+use lib.ListN.{length, drop}
+use lib.Dec.{ltb}
+use Rattle.majority.specs.If.{if_then_else_}
+use Rattle.majority.specs.Check.{Reply, accepted, refused, andThen}
+use Rattle.majority.specs.Rm3.{depth3}
+use Rattle.majority.specs.Translate.{translation, operations}
+use Rattle.majority.specs.declared.Record.{Record}
+use Rattle.majority.specs.declared.Counts.{Counts}
+use Rattle.tables.specs.Bytes.{tableOf, encode}
+use Rattle.tables.specs.Calls.{checkOf}
+
+-- the RM3 table of a table with these counts, for a buffer of so many bytes; 11 where it does not fit
+abbrev pub rm3In : ℕ → List Record → Counts → Reply (List Record)
+rm3In room rs c =
+    let ts = translation (c .inputs) (c .gates) rs in
+    if ltb room (8 * length ts) then refused 11 0 else accepted ts
+
+-- the RM3 table of the first used bytes of xs, or the refusal
+unfoldable pub rm3Of : List ℕ → ℕ → ℕ → Reply (List Record)
+rm3Of xs used room = andThen (checkOf xs used) (rm3In room (tableOf xs (used / 8)))
+
+-- the reply is the RM3 table's length in bytes
+abbrev pub inBytes : List Record → Reply ℕ
+inBytes ts = accepted (8 * length ts)
+
+unfoldable pub translateOf : List ℕ → ℕ → ℕ → Reply ℕ
+translateOf xs used room = andThen (rm3Of xs used room) inBytes
+
+-- the bytes ys of a buffer with a table at their beginning; the same bytes after a refusal
+abbrev pub over : Reply (List Record) → List ℕ → List ℕ
+over (accepted ts) ys = encode ts ++ drop (8 * length ts) ys
+over (refused k i) ys = ys
+
+unfoldable pub translateBytes : List ℕ → ℕ → List ℕ → List ℕ
+translateBytes xs used ys = over (rm3Of xs used (length ys)) ys
+
+-- the depth of the RM3 table of a table with these counts
+abbrev pub depthIn : List Record → Counts → Reply ℕ
+depthIn rs c = accepted (depth3 (c .inputs) (operations (c .inputs) (c .gates) rs) (translation (c .inputs) (c .gates) rs))
+
+unfoldable pub depthOf : List ℕ → ℕ → Reply ℕ
+depthOf xs used = andThen (checkOf xs used) (depthIn (tableOf xs (used / 8)))

@@ -1,0 +1,6 @@
+pub mod Patterns
+pub mod Said
+pub mod Calls
+pub mod Turned
+pub mod Laid
+pub mod Levelled

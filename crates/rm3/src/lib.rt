@@ -1,0 +1,55 @@
+// The RM3 table of a majority table: its bytes, and its depth.
+mod counting;
+mod levels;
+mod patterns;
+mod writing;
+
+use levels::depth;
+use majority::MOST_GATES;
+use majority::MOST_INPUTS;
+use majority::MOST_OUTPUTS;
+use tables::Checked;
+use tables::Refusal;
+use tables::check;
+use writing::written;
+ghost use mathlib.Core.Path.{_≡_};
+ghost use lib.ListN.{length};
+ghost use Rattle.rm3.specs.Said.{saidTranslate, saidDepth};
+ghost use Rattle.rm3.specs.Calls.{translateOf, translateBytes, depthOf};
+
+// The most bytes that an RM3 table has: 32 inputs, three operations a gate and one an output, and 32 outputs.
+pub const MOST_BYTES: usize = 8 * (MOST_INPUTS + 3 * MOST_GATES + 2 * MOST_OUTPUTS);
+
+// The kind of an operation's record.
+pub const OPERATION: u16 = 4;
+
+pub enum Translated {
+    Length(usize),
+    Refused(Refusal),
+}
+
+pub enum Depth {
+    Depth(usize),
+    Refused(Refusal),
+}
+
+// Writes the RM3 table of the table in the first used bytes of s to the beginning of out, and answers its length.
+pub fn translate(s: &[u8], used: usize, out: &mut [u8]) -> Translated
+    ensures reply { λ r. ⌜ saidTranslate r ≡ translateOf (now (s .entry)) used (length (now (out .entry))) ⌝ }
+    ensures bytes { λ _. ⌜ now (out .exit) ≡ translateBytes (now (s .entry)) used (now (out .entry)) ⌝ }
+{
+    match check(s, used) {
+        Checked::Accepted(counts) => written(s, counts, out),
+        Checked::Refused(refusal) => Translated::Refused(refusal),
+    }
+}
+
+// The depth of the RM3 table of the table in the first used bytes of s.
+pub fn rm3_depth(s: &[u8], used: usize) -> Depth
+    ensures { λ r. ⌜ saidDepth r ≡ depthOf (now (s .entry)) used ⌝ }
+{
+    match check(s, used) {
+        Checked::Accepted(counts) => Depth::Depth(depth(s, counts) as usize),
+        Checked::Refused(refusal) => Depth::Refused(refusal),
+    }
+}

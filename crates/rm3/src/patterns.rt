@@ -1,0 +1,90 @@
+// The 27 patterns of a gate's edges: where its middle place is, and which of its edges need helpers.
+use majority::Record;
+use majority::inverted;
+use majority::node;
+ghost use mathlib.Core.Path.{_≡_};
+ghost use mathlib.Core.Bool.{false};
+ghost use Prim.Native.Nat.{_<_};
+ghost use Rattle.majority.specs.Translate.{classOf, needsHelper};
+ghost use Rattle.rm3.specs.Patterns.{classNumber, patternOf};
+
+// The classes of edges.
+const CONSTANT: usize = 0;
+
+const PLAIN: usize = 1;
+
+const INVERTED: usize = 2;
+
+// The middle place, counted from 1, and whether the first, second and third edge need a helper.
+pub(crate) struct Pattern {
+    pub middle: u8,
+    pub first: bool,
+    pub second: bool,
+    pub third: bool,
+}
+
+// For the classes a, b and c, at 9 * a + 3 * b + c: the middle place, with 4, 8 and 16 for helpers of the three edges.
+const PATTERNS: [u8; 27] = [
+    1, // constant, constant, constant
+    1, // constant, constant, plain
+    3, // constant, constant, inverted
+    1, // constant, plain, constant
+    1, // constant, plain, plain
+    3, // constant, plain, inverted
+    2, // constant, inverted, constant
+    2, // constant, inverted, plain
+    18, // constant, inverted, inverted
+    2, // plain, constant, constant
+    2, // plain, constant, plain
+    3, // plain, constant, inverted
+    3, // plain, plain, constant
+    10, // plain, plain, plain
+    3, // plain, plain, inverted
+    2, // plain, inverted, constant
+    2, // plain, inverted, plain
+    18, // plain, inverted, inverted
+    1, // inverted, constant, constant
+    1, // inverted, constant, plain
+    17, // inverted, constant, inverted
+    1, // inverted, plain, constant
+    1, // inverted, plain, plain
+    17, // inverted, plain, inverted
+    9, // inverted, inverted, constant
+    9, // inverted, inverted, plain
+    25, // inverted, inverted, inverted
+];
+
+pub(crate) fn class(edge: u16) -> usize
+    ensures { λ r. ⌜ (r ≡ classNumber (classOf edge)) × (r < 3) ⌝ }
+{
+    if node(edge) == 0 {
+        return CONSTANT;
+    }
+    if inverted(edge) {
+        return INVERTED;
+    }
+    PLAIN
+}
+
+// The pattern of a gate.
+pub(crate) fn pattern_of(gate: Record) -> Pattern
+    ensures { λ r. ⌜ r ≡ patternOf gate ⌝ }
+{
+    let a = class(gate.e1);
+    let b = class(gate.e2);
+    let c = class(gate.e3);
+    let packed = PATTERNS[9 * a + 3 * b + c];
+    Pattern {
+        middle: packed % 4,
+        first: packed / 4 % 2 == 1,
+        second: packed / 8 % 2 == 1,
+        third: packed / 16 % 2 == 1,
+    }
+}
+
+// An output's edge needs a helper.
+pub(crate) fn output_helped(edge: u16) -> bool
+    ensures { λ r. ⌜ r ≡ needsHelper false (classOf edge) ⌝ }
+{
+    class(edge) == INVERTED
+}
