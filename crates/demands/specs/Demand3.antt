@@ -1,5 +1,5 @@
--- What rewriting keeps (SPEC 5.6): take an accepted table, and run any scripts on it one after another.
-use Prim.Native.Nat.{ℕ, _+_, _/_, _≤_, _<_}
+-- What rewriting keeps (SPEC 5.6): take an accepted table, and run any scripts on it one after another. Then what its RM3 table keeps (SPEC 6.3).
+use Prim.Native.Nat.{ℕ, _+_, _*_, _/_, _≤_, _<_}
 use mathlib.Core.Path.{_≡_}
 use mathlib.Core.List.{List, [], _∷_}
 use lib.ListN.{take}
@@ -9,11 +9,13 @@ use Rattle.majority.specs.Level.{depth}
 use Rattle.majority.specs.Check.{accepted}
 use Rattle.majority.specs.Edit.{nodeRecord}
 use Rattle.majority.specs.Step.{deepens}
+use Rattle.majority.specs.Rm3.{WellFormed3, outputValue3, depth3}
 use Rattle.majority.specs.declared.Record.{Record}
 use Rattle.majority.specs.declared.Counts.{Counts}
 use Rattle.tables.specs.Bytes.{tableOf}
 use Rattle.tables.specs.Calls.{checkOf}
 use Rattle.rewriting.specs.Script.{Run, stepsOf, scriptRun}
+use Rattle.rm3.specs.Calls.{rm3Of}
 
 -- how many of these steps are of associativity or distributivity, rules 3, 4 and 5
 unfoldable pub deepening : List Record → ℕ
@@ -67,3 +69,26 @@ Demand3 =
     (xs : List ℕ) (used : ℕ) (scripts : List (List ℕ)) (n m o : ℕ)
     → checkOf xs used ≡ accepted (counts n m o)
     → Keeps n m o (tableOf xs (used / 8)) (runScripts xs used scripts)
+
+-- from the first table, by what scripts leave, to the RM3 table ts
+pub record KeepsRm3 (n m o : ℕ) (first : List Record) (after : After) (ts : List Record) : Type 0 where
+  -- how many gates there are now, and how many operations
+  pub gates : ℕ
+  pub operations : ℕ
+  pub holds : checkOf (after .bytes) (after .used) ≡ accepted (counts n gates o)
+  -- every operation reads only lower operands
+  pub formed : WellFormed3 n operations o ts
+  -- each output has its first value under each assignment
+  pub outputs : (a j : ℕ) → j < o → outputValue3 a n operations ts j ≡ outputValue a n m first j
+  -- at most three operations a gate plus one an output
+  pub few : operations ≤ 3 * gates + o
+  -- a depth of at most twice the table's plus one
+  pub deep : depth3 n operations ts ≤ 2 * depth n gates (tableAfter after) + 1
+
+-- for every buffer, used length and scripts, and for every second buffer of so many bytes that holds the RM3 table ts
+unfoldable pub Demand3Rm3 : Type 0
+Demand3Rm3 =
+    (xs : List ℕ) (used : ℕ) (scripts : List (List ℕ)) (n m o room : ℕ) (ts : List Record)
+    → checkOf xs used ≡ accepted (counts n m o)
+    → rm3Of (runScripts xs used scripts .bytes) (runScripts xs used scripts .used) room ≡ accepted ts
+    → KeepsRm3 n m o (tableOf xs (used / 8)) (runScripts xs used scripts) ts

@@ -15,3 +15,4 @@ pub mod Replies
 pub mod Onward
 pub mod Turns
 pub mod Scripts
+pub mod SaidOnce

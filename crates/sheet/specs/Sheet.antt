@@ -4,11 +4,13 @@ use mathlib.Core.List.{List, [], _∷_, _++_, map}
 use lib.ListN.{length, replicate}
 use Rattle.majority.specs.Table.{input, gate, output}
 use Rattle.majority.specs.Check.{Reply, accepted, refused}
+use Rattle.majority.specs.Rm3.{operation}
 use Rattle.majority.specs.declared.Record.{Record}
 use Rattle.majority.specs.declared.Counts.{Counts}
 use Rattle.tables.specs.Bytes.{encode, tableOf}
 use Rattle.tables.specs.Calls.{checkOf, evaluateOf, reportOf}
 use Rattle.tables.specs.declared.Size.{Size}
+use Rattle.rm3.specs.Calls.{rm3Of}
 use Rattle.rewriting.specs.Script.{Run, End, finished, scriptRun}
 
 -- what can be asked of a table
@@ -21,6 +23,8 @@ pub data Question : Type 0 where
   report : List Record → Question
   -- what do these steps make of it, in a buffer that has room for two gates more?
   run : List Record → List Record → Question
+  -- what is its RM3 table, in a buffer with room for the longest?
+  translate : List Record → Question
 
 pub data Answer : Type 0 where
   -- accepted, with so many inputs, gates and outputs
@@ -33,6 +37,8 @@ pub data Answer : Type 0 where
   size : ℕ → ℕ → Answer
   -- so many steps are taken and this is the end, and this table is left
   leaves : ℕ → End → List Record → Answer
+  -- this RM3 table
+  makes : List Record → Answer
 
 abbrev pub checkAnswer : Reply Counts → Answer
 checkAnswer (accepted c) = counts (c .inputs) (c .gates) (c .outputs)
@@ -45,12 +51,17 @@ sizeAnswer (refused k i) = refusal k i
 abbrev pub runAnswer : Run → Answer
 runAnswer r = leaves (r .taken) (r .end) (tableOf (r .bytes) (r .used / 8))
 
+abbrev pub rm3Answer : Reply (List Record) → Answer
+rm3Answer (accepted ts) = makes ts
+rm3Answer (refused k i) = refusal k i
+
 -- the answer, by the definitions
 abbrev pub answerTo : Question → Answer
 answerTo (check xs used) = checkAnswer (checkOf xs used)
 answerTo (evaluate rs assignments) = replies (map (evaluateOf (encode rs) (8 * length rs)) assignments)
 answerTo (report rs) = sizeAnswer (reportOf (encode rs) (8 * length rs))
 answerTo (run rs steps) = runAnswer (scriptRun (encode rs ++ replicate 16 0) (8 * length rs) (encode steps))
+answerTo (translate rs) = rm3Answer (rm3Of (encode rs) (8 * length rs) 25344)
 
 pub record Example : Type 0 where
   pub question : Question
@@ -110,10 +121,14 @@ abbrev pub sheet : List Example
 sheet =
     whole P1 ⟶ counts 2 1 1
     ∷ evaluate P1 upTo3 ⟶ outputs (0 ∷ 0 ∷ 0 ∷ 1 ∷ [])
+    ∷ translate P1 ⟶ makes (input ∷ input ∷ operation 2 1 3 ∷ output 4 ∷ [])
     ∷ evaluate P2 upTo7 ⟶ outputs (0 ∷ 0 ∷ 0 ∷ 1 ∷ 0 ∷ 1 ∷ 1 ∷ 1 ∷ [])
+    ∷ translate P2 ⟶ makes (input ∷ input ∷ input ∷ operation 0 3 1 ∷ operation 2 5 4 ∷ output 6 ∷ [])
     ∷ evaluate P3 upTo7 ⟶ outputs (1 ∷ 1 ∷ 1 ∷ 0 ∷ 1 ∷ 0 ∷ 0 ∷ 0 ∷ [])
+    ∷ translate P3 ⟶ makes (input ∷ input ∷ input ∷ operation 0 3 1 ∷ operation 0 4 1 ∷ operation 5 2 6 ∷ output 7 ∷ [])
     ∷ run P4 (on 2 2 ∷ []) ⟶ leaves 1 finished (input ∷ gate 2 2 0 ∷ output 3 ∷ [])
     ∷ run P4 (on 2 2 ∷ swept ∷ []) ⟶ leaves 2 finished (input ∷ output 3 ∷ [])
+    ∷ translate (input ∷ output 3 ∷ []) ⟶ makes (input ∷ operation 0 2 1 ∷ output 3 ∷ [])
     ∷ run P5 (on 2 2 ∷ []) ⟶ leaves 1 finished (input ∷ gate 2 3 0 ∷ output 1 ∷ [])
     ∷ run P6 (on 3 6 ∷ []) ⟶ leaves 1 finished (input ∷ input ∷ input ∷ input ∷ gate 6 4 8 ∷ gate 6 4 2 ∷ gate 8 4 12 ∷ output 14 ∷ [])
     ∷ run P6 (on 3 6 ∷ swept ∷ []) ⟶ leaves 2 finished (input ∷ input ∷ input ∷ input ∷ gate 6 4 2 ∷ gate 8 4 10 ∷ output 12 ∷ [])
@@ -121,6 +136,7 @@ sheet =
     ∷ whole P8 ⟶ counts 3 3 2
     ∷ evaluate P8 upTo7 ⟶ outputs (0 ∷ 1 ∷ 1 ∷ 2 ∷ 1 ∷ 2 ∷ 2 ∷ 3 ∷ [])
     ∷ report P8 ⟶ size 3 2
+    ∷ translate P8 ⟶ makes (input ∷ input ∷ input ∷ operation 0 3 1 ∷ operation 2 5 4 ∷ operation 2 4 3 ∷ operation 7 6 4 ∷ output 8 ∷ output 6 ∷ [])
     -- P9: an empty table. P10: 12 bytes
     ∷ whole [] ⟶ refusal 3 0
     ∷ check (replicate 12 0) 12 ⟶ refusal 1 0
