@@ -7,3 +7,4 @@ pub mod Encoded
 pub mod After
 pub mod PutField
 pub mod Put
+pub mod Claims

@@ -11,13 +11,13 @@ use lib.Dec.{ltb}
 use lib.ListN.{length}
 use Rattle.majority.specs.Seek.{first}
 use Rattle.majority.specs.Table.{recordAt}
-use Rattle.majority.specs.If.{if_then_else_}
-use Rattle.majority.specs.Check.{refused, badKind, kindBefore, badKindAt, badCounts, checkFields, checkRecords}
+use Rattle.majority.specs.Check.{accepted, refused, badKind, kindBefore, badKindAt}
 use Rattle.majority.specs.declared.Record.{Record}
 use Rattle.majority.proofs.Seek.{found-at, found-in, fails-before, holds-there, nothing-there}
 use Rattle.majority.proofs.Order.{InOrder, order-good, order-counts}
 use Rattle.majority.proofs.Accepted.{counts}
 use Rattle.tables.specs.Runs.{otherKind, runEnd}
+use Rattle.tables.specs.Claimed.{checkKinds}
 
 -- one run
 module _ (rs : List Record) (n k from : ℕ) (inside : from ≤ n) where
@@ -36,14 +36,14 @@ module _ (rs : List Record) (n k from : ℕ) (inside : from ≤ n) where
 pub run-at-most : (rs : List Record) (n k from i : ℕ) → i ≡ runEnd rs n k from → from ≤ n → i ≤ n
 run-at-most rs n k from i e h = rw e (run-in rs n k from h .1)
 
+pub or-true : (t : Bool) → (t || true) ≡ true
+or-true true = refl
+or-true false = refl
+
 -- a kind that is none of 1 to 3 from that before it on is bad
 bad-kind : (before kind : ℕ) → (1 ≤ kind → kind ≤ 3 → before ≤ kind → ⊥) → badKind before kind ≡ true
 bad-kind before kind not-good = go (decLt kind 1) (decLt 3 kind) (decLt kind before)
   where
-    or-true : (t : Bool) → (t || true) ≡ true
-    or-true true = refl
-    or-true false = refl
-
     go : Dec (kind < 1) → Dec (3 < kind) → Dec (kind < before) → badKind before kind ≡ true
     go (yes p) _ _ = rw (lt-ltb kind 1 p)
     go (no p) (yes q) _ = rw (lt-ltb 3 kind q, or-true (ltb kind 1))
@@ -111,15 +111,14 @@ module _ (rs : List Record) (n : ℕ) (all : length rs ≡ n) where
           omega arith
 
   -- the kinds decide: the first bad one, or the counts
-  kinds-stop : end < n → checkRecords rs ≡ refused 2 end
-  unfolding checkRecords
+  kinds-stop : end < n → checkKinds rs ≡ refused 2 end
+  unfolding checkKinds
   kinds-stop h =
       let bad : first (badKindAt rs) n ≡ end = found-at (badKindAt rs) n 0 end (omega arith) (omega arith) (λ l a b. runs-good l b) (end-bad h) in
       rw (all, bad, lt-ltb end n h)
 
-  kinds-pass : n ≤ end → checkRecords rs
-      ≡ (if badCounts (counts inputs (nodes - inputs) (n - nodes)) then refused 3 0 else checkFields (counts inputs (nodes - inputs) (n - nodes)) rs)
-  unfolding checkRecords
+  kinds-pass : n ≤ end → checkKinds rs ≡ accepted (counts inputs (nodes - inputs) (n - nodes))
+  unfolding checkKinds
   kinds-pass h =
       let e : end ≡ n = omega (arith, end-in .1) in
       let none : first (badKindAt rs) n ≡ n = nothing-there (badKindAt rs) n 0 (λ j a b. runs-good j (omega arith)) ∙ omega arith in
@@ -137,8 +136,8 @@ module _ (rs : List Record) (n : ℕ) (all : length rs ≡ n) where
     pub runs-inside : (i ≤ j) × (j ≤ k) × (k ≤ n)
     runs-inside = rw (ei, nodes-found, end-found) (nodes-in .0, end-in .0, end-in .1)
 
-    pub runs-stop : k < n → checkRecords rs ≡ refused 2 k
+    pub runs-stop : k < n → checkKinds rs ≡ refused 2 k
     runs-stop = rw end-found kinds-stop
 
-    pub runs-pass : n ≤ k → checkRecords rs ≡ (if badCounts (counts i (j - i) (n - j)) then refused 3 0 else checkFields (counts i (j - i) (n - j)) rs)
+    pub runs-pass : n ≤ k → checkKinds rs ≡ accepted (counts i (j - i) (n - j))
     runs-pass = rw (end-found, nodes-found, ei) kinds-pass

@@ -4,3 +4,4 @@ pub mod Runs
 pub mod Said
 pub mod Worths
 pub mod Calls
+pub mod Claimed

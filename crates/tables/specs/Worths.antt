@@ -9,7 +9,7 @@ use Rattle.majority.specs.Edge.{nodeOf, isInverted}
 use Rattle.majority.specs.Node.{Meaning, worth}
 use Rattle.majority.specs.Value.{majorityOf, bit}
 use Rattle.majority.specs.Level.{above}
-use Rattle.majority.specs.Check.{accepted, checkRecords}
+use Rattle.majority.specs.Check.{Reply, accepted, checkRecords}
 use Rattle.majority.specs.declared.Record.{Record}
 use Rattle.majority.specs.declared.Counts.{Counts}
 use Rattle.tables.specs.Bytes.{tableOf}
@@ -18,6 +18,10 @@ use Rattle.tables.specs.Bytes.{tableOf}
 pub record Sound (xs : List ℕ) (c : Counts) : Type 0 where
   pub fits : 8 * (c .inputs + c .gates + c .outputs) ≤ length xs
   pub sound : checkRecords (tableOf xs (c .inputs + c .gates + c .outputs)) ≡ accepted c
+
+-- where a check accepts, the bytes hold an accepted table with its counts
+abbrev pub SoundAfter : List ℕ → Reply Counts → Type 0
+SoundAfter xs reply = (c : Counts) → reply ≡ accepted c → Sound xs c
 
 -- the table of these counts that the bytes hold
 abbrev pub tableIn : List ℕ → Counts → List Record

@@ -19,6 +19,7 @@ ghost use Rattle.majority.specs.Check.{badCounts, notZero, past, badEdge, fault
 ghost use Rattle.tables.specs.Bytes.{tableOf};
 ghost use Rattle.tables.specs.Said.{faultNumber, saidCheck};
 ghost use Rattle.tables.specs.Runs.{runEnd};
+ghost use Rattle.tables.specs.Claimed.{otherCounts, checkKinds, checkCounted, checkClaimed};
 
 // The first record from `from` on, of n records, that is of another kind; n where there is none.
 fn run_end(s: &[u8], from: usize, n: usize, kind: u16) -> usize
@@ -114,10 +115,10 @@ fn check_fields(s: &[u8], n: usize, counts: Counts) -> Checked
     Checked::Accepted(counts)
 }
 
-// Refusals 2 to 5 of the n records of s.
-pub(crate) fn check_records(s: &[u8], n: usize) -> Checked
+// Refusal 2 of the n records of s, or their counts.
+fn check_kinds(s: &[u8], n: usize) -> Checked
     requires { ⌜ 8 * n ≤ length (now s) ⌝ }
-    ensures { λ r. ⌜ saidCheck r ≡ checkRecords (tableOf (now (s .entry)) n) ⌝ }
+    ensures { λ r. ⌜ saidCheck r ≡ checkKinds (tableOf (now (s .entry)) n) ⌝ }
 {
     let inputs = run_end(s, 0, n, INPUT);
     let nodes = run_end(s, inputs, n, GATE);
@@ -125,13 +126,53 @@ pub(crate) fn check_records(s: &[u8], n: usize) -> Checked
     if end < n {
         return Checked::Refused(Refusal::Kind(end));
     }
-    let counts = Counts {
-        inputs,
-        gates: nodes - inputs,
-        outputs: n - nodes,
-    };
-    if bad_counts(counts) {
+    Checked::Accepted(
+        Counts {
+            inputs,
+            gates: nodes - inputs,
+            outputs: n - nodes,
+        },
+    )
+}
+
+// The counts found are not those claimed.
+fn other_counts(claim: Counts, found: Counts) -> bool
+    ensures { λ r. ⌜ r ≡ otherCounts claim found ⌝ }
+{
+    (claim.inputs != found.inputs) | (claim.gates != found.gates) | (claim.outputs != found.outputs)
+}
+
+// Refusals 3 to 5 of n records with the counts found, for which others may be claimed.
+fn check_counted(s: &[u8], n: usize, claim: Counts, found: Counts) -> Checked
+    requires { ⌜ 8 * n ≤ length (now s) ⌝ }
+    ensures { λ r. ⌜ saidCheck r ≡ checkCounted claim (tableOf (now (s .entry)) n) found ⌝ }
+{
+    let bad = bad_counts(found);
+    let other = other_counts(claim, found);
+    if bad | other {
         return Checked::Refused(Refusal::Count);
     }
-    check_fields(s, n, counts)
+    check_fields(s, n, found)
+}
+
+// Refusals 2 to 5 of the n records of s.
+pub(crate) fn check_records(s: &[u8], n: usize) -> Checked
+    requires { ⌜ 8 * n ≤ length (now s) ⌝ }
+    ensures { λ r. ⌜ saidCheck r ≡ checkRecords (tableOf (now (s .entry)) n) ⌝ }
+{
+    match check_kinds(s, n) {
+        Checked::Accepted(found) => check_counted(s, n, found, found),
+        Checked::Refused(refusal) => Checked::Refused(refusal),
+    }
+}
+
+// The same, and 3 where other counts are claimed.
+pub(crate) fn check_claimed(s: &[u8], n: usize, claim: Counts) -> Checked
+    requires { ⌜ 8 * n ≤ length (now s) ⌝ }
+    ensures { λ r. ⌜ saidCheck r ≡ checkClaimed claim (tableOf (now (s .entry)) n) ⌝ }
+{
+    match check_kinds(s, n) {
+        Checked::Accepted(found) => check_counted(s, n, claim, found),
+        Checked::Refused(refusal) => Checked::Refused(refusal),
+    }
 }

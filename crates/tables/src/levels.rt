@@ -1,4 +1,6 @@
 // The levels of a table's nodes, and its depth.
+use crate::Checked;
+use crate::Reported;
 use crate::Size;
 use crate::records::record_in;
 use majority::Counts;
@@ -10,8 +12,10 @@ ghost use lib.ListN.{getD};
 ghost use Rattle.majority.specs.Edge.{nodeOf};
 ghost use Rattle.majority.specs.Table.{Below};
 ghost use Rattle.majority.specs.Level.{depth as depthOf};
+ghost use Rattle.majority.specs.Check.{accepted, andThen};
+ghost use Rattle.tables.specs.Said.{saidCheck, saidReport};
 ghost use Rattle.tables.specs.Calls.{sizeOf};
-ghost use Rattle.tables.specs.Worths.{Sound, tableIn, Fresh, gateLevel};
+ghost use Rattle.tables.specs.Worths.{Sound, SoundAfter, tableIn, Fresh, gateLevel};
 
 // The higher of two levels.
 pub fn higher(a: u16, b: u16) -> u16
@@ -62,7 +66,7 @@ fn set_levels(levels: &mut [u16; 1057], s: &[u8], counts: Counts) -> usize
 }
 
 // The size and depth of an accepted table.
-pub(crate) fn size(s: &[u8], counts: Counts) -> Size
+fn size(s: &[u8], counts: Counts) -> Size
     requires { ⌜ Sound (now s) counts ⌝ }
     ensures { λ r. ⌜ r ≡ sizeOf (tableIn (now (s .entry)) counts) counts ⌝ }
 {
@@ -71,5 +75,16 @@ pub(crate) fn size(s: &[u8], counts: Counts) -> Size
     Size {
         gates: counts.gates,
         depth,
+    }
+}
+
+// The size and depth of a table that was checked.
+pub(crate) fn size_after(s: &[u8], checked: Checked) -> Reported
+    requires { ⌜ SoundAfter (now s) (saidCheck checked) ⌝ }
+    ensures { λ r. ⌜ saidReport r ≡ andThen (saidCheck checked) (λ c. accepted (sizeOf (tableIn (now (s .entry)) c) c)) ⌝ }
+{
+    match checked {
+        Checked::Accepted(counts) => Reported::Whole(size(s, counts)),
+        Checked::Refused(refusal) => Reported::Refused(refusal),
     }
 }

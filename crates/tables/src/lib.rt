@@ -1,17 +1,21 @@
 // A table in lent bytes: its records, its check, and what it answers.
 mod checking;
+mod claimed;
 mod fields;
 mod levels;
 mod records;
 mod values;
 
 use checking::check_records;
+pub use claimed::check_as;
+pub use claimed::evaluate_as;
+pub use claimed::report_as;
 pub use levels::higher;
-use levels::size;
+use levels::size_after;
 use majority::Counts;
 pub use records::put_record;
 pub use records::record_at;
-use values::value;
+use values::value_after;
 ghost use mathlib.Core.Path.{_≡_};
 ghost use Rattle.tables.specs.Said.{refusalNumber, refusalRecord, saidCheck, saidValue, saidReport};
 ghost use Rattle.tables.specs.Calls.{checkOf, evaluateOf, reportOf};
@@ -106,18 +110,12 @@ pub fn check(s: &[u8], used: usize) -> Checked
 pub fn evaluate(s: &[u8], used: usize, assignment: u32) -> Valued
     ensures { λ r. ⌜ saidValue r ≡ evaluateOf (now (s .entry)) used assignment ⌝ }
 {
-    match check(s, used) {
-        Checked::Accepted(counts) => value(s, counts, assignment),
-        Checked::Refused(refusal) => Valued::Refused(refusal),
-    }
+    value_after(s, check(s, used), assignment)
 }
 
 // The table's size and depth.
 pub fn report(s: &[u8], used: usize) -> Reported
     ensures { λ r. ⌜ saidReport r ≡ reportOf (now (s .entry)) used ⌝ }
 {
-    match check(s, used) {
-        Checked::Accepted(counts) => Reported::Whole(size(s, counts)),
-        Checked::Refused(refusal) => Reported::Refused(refusal),
-    }
+    size_after(s, check(s, used))
 }

@@ -1,4 +1,5 @@
 // The values of a table's nodes under an assignment, and its outputs' number.
+use crate::Checked;
 use crate::Refusal;
 use crate::Valued;
 use crate::records::record_in;
@@ -13,9 +14,10 @@ ghost use Prim.Native.Nat.{_+_, _≤_, _<_};
 ghost use Rattle.majority.specs.Edge.{nodeOf};
 ghost use Rattle.majority.specs.Table.{Below};
 ghost use Rattle.majority.specs.Value.{bitPast, values as valuesOf, outputNumber};
-ghost use Rattle.tables.specs.Said.{saidValue};
+ghost use Rattle.majority.specs.Check.{andThen};
+ghost use Rattle.tables.specs.Said.{saidCheck, saidValue};
 ghost use Rattle.tables.specs.Calls.{valueOf};
-ghost use Rattle.tables.specs.Worths.{Sound, tableIn, Fresh, Holds, HoldsInputs, edgeValue, gateValue};
+ghost use Rattle.tables.specs.Worths.{Sound, SoundAfter, tableIn, Fresh, Holds, HoldsInputs, edgeValue, gateValue};
 
 // A bit is set at position n or above.
 fn bit_past(assignment: u32, n: usize) -> bool
@@ -91,7 +93,7 @@ fn output_number(values: &[bool; 1057], s: &[u8], counts: Counts, assignment: u3
 }
 
 // The outputs' number of an accepted table.
-pub(crate) fn value(s: &[u8], counts: Counts, assignment: u32) -> Valued
+fn value(s: &[u8], counts: Counts, assignment: u32) -> Valued
     requires { ⌜ Sound (now s) counts ⌝ }
     ensures { λ r. ⌜ saidValue r ≡ valueOf assignment (tableIn (now (s .entry)) counts) counts ⌝ }
 {
@@ -102,4 +104,15 @@ pub(crate) fn value(s: &[u8], counts: Counts, assignment: u32) -> Valued
     set_inputs(&mut values, counts.inputs, assignment);
     set_gates(&mut values, s, counts, assignment);
     Valued::Outputs(output_number(&values, s, counts, assignment))
+}
+
+// The outputs' number of a table that was checked.
+pub(crate) fn value_after(s: &[u8], checked: Checked, assignment: u32) -> Valued
+    requires { ⌜ SoundAfter (now s) (saidCheck checked) ⌝ }
+    ensures { λ r. ⌜ saidValue r ≡ andThen (saidCheck checked) (λ c. valueOf assignment (tableIn (now (s .entry)) c) c) ⌝ }
+{
+    match checked {
+        Checked::Accepted(counts) => value(s, counts, assignment),
+        Checked::Refused(refusal) => Valued::Refused(refusal),
+    }
 }

@@ -1,0 +1,39 @@
+-- `checking::check_claimed` meets its contract: the kinds, then the counts claimed and the fields.
+use borrow.Author.Needs.{needs}
+use mathlib.Core.Path.{sym, _∙_}
+use Rattle.tables.specs.Claimed.{checkCounted, checkClaimed}
+use Rattle.tables.proofs.After.{then-accepted, then-refused}
+use Rattle.tables.proofs.checking.check_claimed.Statement.{statement}
+use Rattle.tables.proofs.checking.check_claimed.Tie as tie
+
+check-kinds-requires : tie.Need-check-kinds-requires
+check-kinds-requires c κs = search needs
+
+enum-known-found : tie.Need-enum-known-found
+enum-known-found c = search needs
+
+check-counted-requires : tie.Need-check-counted-requires
+check-counted-requires c κs = search needs
+
+enum-known-refusal : tie.Need-enum-known-refusal
+enum-known-refusal c = search needs
+
+returns : tie.Need-returns
+unfolding checkClaimed
+returns c = let d = c .before .before in
+    c .check-counted .ensures ∙ sym (then-accepted (checkCounted _ _) _ _ (d .before .before .check-kinds .ensures) _ (d .found .given .1))
+
+returns-2 : tie.Need-returns-2
+unfolding checkClaimed
+returns-2 c = sym (then-refused (checkCounted _ _) _ _ (c .before .before .before .check-kinds .ensures) _ (c .before .refusal .given .1))
+
+pub check-claimed-spec : {M : Type 1} → statement M
+check-claimed-spec =
+    tie.close
+    (tie.spec
+    check-kinds-requires
+    enum-known-found
+    check-counted-requires
+    enum-known-refusal
+    returns
+    returns-2)

@@ -1,0 +1,43 @@
+-- What the questions reply on records whose counts are claimed (SPEC 7): the used length is that of the bytes, and other counts are refused with 3.
+use Prim.Native.Nat.{ℕ, _/_, _%_}
+use mathlib.Core.Bool.{Bool, not, _||_}
+use mathlib.Core.List.{List}
+use lib.ListN.{length}
+use lib.Dec.{ltb, eqb}
+use Rattle.majority.specs.If.{if_then_else_}
+use Rattle.majority.specs.Seek.{first}
+use Rattle.majority.specs.Check.{Reply, accepted, refused, andThen, badKindAt, countsOf, badCounts, checkFields}
+use Rattle.majority.specs.declared.Record.{Record}
+use Rattle.majority.specs.declared.Counts.{Counts}
+use Rattle.tables.specs.declared.Size.{Size}
+use Rattle.tables.specs.Bytes.{tableOf}
+use Rattle.tables.specs.Calls.{valueOf, sizeOf}
+
+-- the counts claimed are not those found
+abbrev pub otherCounts : Counts → Counts → Bool
+otherCounts claim found =
+    not (eqb (claim .inputs) (found .inputs)) || not (eqb (claim .gates) (found .gates)) || not (eqb (claim .outputs) (found .outputs))
+
+-- 2 over all records, for the first bad one, or the counts found
+unfoldable pub checkKinds : List Record → Reply Counts
+checkKinds rs =
+    let bad = first (badKindAt rs) (length rs) in
+    if ltb bad (length rs) then refused 2 bad else accepted (countsOf rs)
+
+-- 3, for the counts found or for others claimed, then 4 and 5
+unfoldable pub checkCounted : Counts → List Record → Counts → Reply Counts
+checkCounted claim rs found = if badCounts found || otherCounts claim found then refused 3 0 else checkFields found rs
+
+-- 2 to 5 of records whose counts are claimed
+unfoldable pub checkClaimed : Counts → List Record → Reply Counts
+checkClaimed claim rs = andThen (checkKinds rs) (checkCounted claim rs)
+
+-- the check of all bytes of xs
+unfoldable pub claimedCheck : List ℕ → Counts → Reply Counts
+claimedCheck xs claim = if not (eqb (length xs % 8) 0) then refused 1 0 else checkClaimed claim (tableOf xs (length xs / 8))
+
+unfoldable pub claimedEvaluate : List ℕ → Counts → ℕ → Reply ℕ
+claimedEvaluate xs claim a = andThen (claimedCheck xs claim) (valueOf a (tableOf xs (length xs / 8)))
+
+unfoldable pub claimedReport : List ℕ → Counts → Reply Size
+claimedReport xs claim = andThen (claimedCheck xs claim) (λ c. accepted (sizeOf (tableOf xs (length xs / 8)) c))
