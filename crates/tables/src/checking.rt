@@ -126,13 +126,11 @@ fn check_kinds(s: &[u8], n: usize) -> Checked
     if end < n {
         return Checked::Refused(Refusal::Kind(end));
     }
-    Checked::Accepted(
-        Counts {
-            inputs,
-            gates: nodes - inputs,
-            outputs: n - nodes,
-        },
-    )
+    Checked::Accepted(Counts {
+        inputs,
+        gates: nodes - inputs,
+        outputs: n - nodes,
+    })
 }
 
 // The counts found are not those claimed.
