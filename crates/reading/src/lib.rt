@@ -1,0 +1,125 @@
+// A reading: lent records with their three counts, and the questions that it answers.
+use majority::Counts;
+use tables::Checked;
+use tables::Reported;
+use tables::Valued;
+use tables::check_as;
+use tables::evaluate_as;
+use tables::report_as;
+ghost use mathlib.Core.Path.{_≡_};
+ghost use Rattle.tables.specs.Said.{saidCheck, saidValue, saidReport};
+ghost use Rattle.tables.specs.Claimed.{claimedCheck, claimedEvaluate, claimedReport};
+ghost use Rattle.reading.specs.Held.{claim, claimed};
+
+// Nothing of a reading is trusted: each question checks the records and the counts again.
+pub struct Reading<'a> {
+    records: &'a [u8],
+    inputs: usize,
+    gates: usize,
+    outputs: usize,
+}
+
+// The questions on the parts of a reading.
+fn check_parts(records: &[u8], inputs: usize, gates: usize, outputs: usize) -> Checked
+    ensures { λ r. ⌜ saidCheck r ≡ claimedCheck (now (records .entry)) (claim inputs gates outputs) ⌝ }
+{
+    check_as(
+        records,
+        Counts {
+            inputs,
+            gates,
+            outputs,
+        },
+    )
+}
+
+fn evaluate_parts(
+    records: &[u8],
+    inputs: usize,
+    gates: usize,
+    outputs: usize,
+    assignment: u32,
+) -> Valued
+    ensures { λ r. ⌜ saidValue r ≡ claimedEvaluate (now (records .entry)) (claim inputs gates outputs) assignment ⌝ }
+{
+    evaluate_as(
+        records,
+        Counts {
+            inputs,
+            gates,
+            outputs,
+        },
+        assignment,
+    )
+}
+
+fn report_parts(records: &[u8], inputs: usize, gates: usize, outputs: usize) -> Reported
+    ensures { λ r. ⌜ saidReport r ≡ claimedReport (now (records .entry)) (claim inputs gates outputs) ⌝ }
+{
+    report_as(
+        records,
+        Counts {
+            inputs,
+            gates,
+            outputs,
+        },
+    )
+}
+
+// Holds any records with any counts.
+pub fn hold<'a>(records: &'a [u8], inputs: usize, gates: usize, outputs: usize) -> Reading<'a>
+    ensures { λ r. ⌜ (r .records ≡ records .entry) × (r .inputs ≡ inputs) × (r .gates ≡ gates) × (r .outputs ≡ outputs) ⌝ }
+{
+    Reading {
+        records,
+        inputs,
+        gates,
+        outputs,
+    }
+}
+
+// Whether the records hold a table with these counts.
+pub fn check<'a>(r: Reading<'a>) -> Checked
+    ensures { λ x. ⌜ saidCheck x ≡ claimedCheck (now (r .entry .records)) (claimed (r .entry)) ⌝ }
+{
+    check_parts(r.records, r.inputs, r.gates, r.outputs)
+}
+
+// The outputs' number under an assignment.
+pub fn evaluate<'a>(r: Reading<'a>, assignment: u32) -> Valued
+    ensures { λ x. ⌜ saidValue x ≡ claimedEvaluate (now (r .entry .records)) (claimed (r .entry)) assignment ⌝ }
+{
+    evaluate_parts(r.records, r.inputs, r.gates, r.outputs, assignment)
+}
+
+// The table's size and depth.
+pub fn report<'a>(r: Reading<'a>) -> Reported
+    ensures { λ x. ⌜ saidReport x ≡ claimedReport (now (r .entry .records)) (claimed (r .entry)) ⌝ }
+{
+    report_parts(r.records, r.inputs, r.gates, r.outputs)
+}
+
+// The same of records and counts: whoever calls these handles no reading.
+pub fn checked_as(records: &[u8], inputs: usize, gates: usize, outputs: usize) -> Checked
+    ensures { λ r. ⌜ saidCheck r ≡ claimedCheck (now (records .entry)) (claim inputs gates outputs) ⌝ }
+{
+    check(hold(records, inputs, gates, outputs))
+}
+
+pub fn evaluated_as(
+    records: &[u8],
+    inputs: usize,
+    gates: usize,
+    outputs: usize,
+    assignment: u32,
+) -> Valued
+    ensures { λ r. ⌜ saidValue r ≡ claimedEvaluate (now (records .entry)) (claim inputs gates outputs) assignment ⌝ }
+{
+    evaluate(hold(records, inputs, gates, outputs), assignment)
+}
+
+pub fn reported_as(records: &[u8], inputs: usize, gates: usize, outputs: usize) -> Reported
+    ensures { λ r. ⌜ saidReport r ≡ claimedReport (now (records .entry)) (claim inputs gates outputs) ⌝ }
+{
+    report(hold(records, inputs, gates, outputs))
+}
