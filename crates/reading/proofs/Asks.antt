@@ -22,8 +22,8 @@ use denote.RattleType.{RattleType, owns}
 use denote.Laws.{Is, shows}
 use denote.Plain.{uint-makes}
 use denote.Builtin.{u8, usize, SliceRefOf}
-use denote.Ref.{RefT, now}
-use denote.Signature.{Signature, plain, namedLft}
+use denote.Ref.{now}
+use denote.Signature.{plain, namedLft}
 use denote.Slice.{sliceVal, sliceTy, ShrSlice}
 use denote.Steps.{owned, peeks, heard, nothing}
 use denote.Struct.Declared.{Declared}

@@ -1,6 +1,6 @@
 -- What the questions on records and counts without an assignment share: `hold` makes a reading, held in a local, and a question is asked of it.
 -- R is the reply's type, ρ its MIR type, Q what is said of a reply to records and counts.
-use mathlib.Core.Path.{_≡_, refl, sym, subst}
+use mathlib.Core.Path.{_≡_, refl, subst}
 use Prim.Native.Nat.{ℕ, _<_, _^_}
 use mathlib.Core.List.{List, [], _∷_}
 use lib.Dec.{T as Holds}

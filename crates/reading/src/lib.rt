@@ -7,9 +7,10 @@ use tables::check_as;
 use tables::evaluate_as;
 use tables::report_as;
 ghost use mathlib.Core.Path.{_≡_};
+ghost use lib.ListN.{take};
 ghost use Rattle.tables.specs.Said.{saidCheck, saidValue, saidReport};
 ghost use Rattle.tables.specs.Claimed.{claimedCheck, claimedEvaluate, claimedReport};
-ghost use Rattle.reading.specs.Held.{claim, claimed};
+ghost use Rattle.reading.specs.Held.{claim, claimed, foundIn, partIn, countsIn};
 
 // Nothing of a reading is trusted: each question checks the records and the counts again.
 pub struct Reading<'a> {
@@ -66,6 +67,44 @@ fn report_parts(records: &[u8], inputs: usize, gates: usize, outputs: usize) -> 
     )
 }
 
+// The used length and counts of a table, all zero where there is none.
+struct Found {
+    used: usize,
+    inputs: usize,
+    gates: usize,
+    outputs: usize,
+}
+
+// The table that the first used bytes of s hold.
+fn find(s: &[u8], used: usize) -> Found
+    ensures { λ r. ⌜ r ≡ foundIn (now (s .entry)) used ⌝ }
+{
+    match tables::check(s, used) {
+        Checked::Accepted(counts) => Found {
+            used,
+            inputs: counts.inputs,
+            gates: counts.gates,
+            outputs: counts.outputs,
+        },
+        Checked::Refused(_) => Found {
+            used: 0,
+            inputs: 0,
+            gates: 0,
+            outputs: 0,
+        },
+    }
+}
+
+// The first used bytes of s, all where there are no more.
+fn part(s: &[u8], used: usize) -> &[u8]
+    ensures { λ r. ⌜ now r ≡ take used (now (s .entry)) ⌝ }
+{
+    if used < s.len() {
+        return &s[..used];
+    }
+    s
+}
+
 // Holds any records with any counts.
 pub fn hold<'a>(records: &'a [u8], inputs: usize, gates: usize, outputs: usize) -> Reading<'a>
     ensures { λ r. ⌜ (r .records ≡ records .entry) × (r .inputs ≡ inputs) × (r .gates ≡ gates) × (r .outputs ≡ outputs) ⌝ }
@@ -76,6 +115,19 @@ pub fn hold<'a>(records: &'a [u8], inputs: usize, gates: usize, outputs: usize) 
         gates,
         outputs,
     }
+}
+
+// Holds the table that the first used bytes of s hold, with its counts; where there is none, no records and no counts.
+pub fn read<'a>(s: &'a [u8], used: usize) -> Reading<'a>
+    ensures { λ r. ⌜ (now (r .records) ≡ partIn (now (s .entry)) used) × (claimed r ≡ countsIn (now (s .entry)) used) ⌝ }
+{
+    let found = find(s, used);
+    hold(
+        part(s, found.used),
+        found.inputs,
+        found.gates,
+        found.outputs,
+    )
 }
 
 // Whether the records hold a table with these counts.

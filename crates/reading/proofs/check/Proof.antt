@@ -1,6 +1,6 @@
 -- `reading::check` meets its contract: the walk of `Asks`.
 use mathlib.Core.Path.{_≡_}
-use mathlib.Core.List.{List, [], _∷_}
+use mathlib.Core.List.{List}
 use Prim.Native.Nat.{ℕ}
 use contract.Running.{givenOf, tables, tablesOf}
 use denote.Enum.Laws as EL
