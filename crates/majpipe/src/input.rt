@@ -1,6 +1,7 @@
 // What a request is read by. Nothing here reads a byte past the one that is asked for.
 ghost use Rattle.majpipe.specs.Part.{Within};
 use libc::STDIN_FILENO;
+use majority::Counts;
 
 // Where a request begins: its operation, or the input's end, which is the normal one.
 pub enum Start {
@@ -11,6 +12,12 @@ pub enum Start {
 // A number of a request, or the input's end inside it.
 pub enum Word {
     Number(u32),
+    Cut,
+}
+
+// The counts of a reading, or the input's end inside them.
+pub enum Claim {
+    Counted(Counts),
     Cut,
 }
 
@@ -42,6 +49,24 @@ pub fn read_number() -> Word {
 // A byte as a number to shift.
 fn wide(byte: u8) -> u32 {
     byte as u32
+}
+
+// The three counts of a reading.
+pub fn read_counts() -> Claim {
+    let Word::Number(inputs) = read_number() else {
+        return Claim::Cut;
+    };
+    let Word::Number(gates) = read_number() else {
+        return Claim::Cut;
+    };
+    let Word::Number(outputs) = read_number() else {
+        return Claim::Cut;
+    };
+    Claim::Counted(Counts {
+        inputs: inputs as usize,
+        gates: gates as usize,
+        outputs: outputs as usize,
+    })
 }
 
 // A length, and then so many bytes, which go to the start of the buffer. A part may be as long as the buffer.

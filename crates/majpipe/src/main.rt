@@ -2,10 +2,12 @@
 mod input;
 mod reply;
 
+use input::Claim;
 use input::Part;
 use input::Start;
 use input::Word;
 use libc::STDOUT_FILENO;
+use majority::Counts;
 use reply::Reply;
 use rewriting::Ending;
 use rewriting::Stepped;
@@ -57,23 +59,33 @@ fn check(table: &[u8], used: usize) -> Outcome {
     }
 }
 
-// Operation 2: the outputs' number under the assignment, which is read here.
-fn evaluate(table: &[u8], used: usize) -> Outcome {
-    let Word::Number(assignment) = input::read_number() else {
-        return Outcome::Cut;
-    };
-    match tables::evaluate(table, used, assignment) {
+// The outputs' number.
+fn valued(answer: Valued) -> Outcome {
+    match answer {
         Valued::Outputs(v) => sent(Reply::accepted().number(v as usize)),
         Valued::Refused(r) => sent(Reply::refused(r).number(0)),
     }
 }
 
-// Operation 3: size and depth.
-fn report(table: &[u8], used: usize) -> Outcome {
-    match tables::report(table, used) {
+// Operation 2: the outputs' number under the assignment, which is read here.
+fn evaluate(table: &[u8], used: usize) -> Outcome {
+    let Word::Number(assignment) = input::read_number() else {
+        return Outcome::Cut;
+    };
+    valued(tables::evaluate(table, used, assignment))
+}
+
+// Size and depth.
+fn reported(answer: Reported) -> Outcome {
+    match answer {
         Reported::Whole(s) => sent(Reply::accepted().number(s.gates).number(s.depth)),
         Reported::Refused(r) => sent(Reply::refused(r).number(0).number(0)),
     }
+}
+
+// Operation 3: size and depth.
+fn report(table: &[u8], used: usize) -> Outcome {
+    reported(tables::report(table, used))
 }
 
 // The two 16-bit numbers of a 32-bit one.
@@ -175,6 +187,40 @@ fn on_table(operation: u8, buffer: &mut [u8]) -> Outcome {
     }
 }
 
+// Operation 7: the outputs' number through a reading, under the assignment, which is read here.
+fn evaluate_reading(records: &[u8], c: Counts) -> Outcome {
+    let Word::Number(assignment) = input::read_number() else {
+        return Outcome::Cut;
+    };
+    valued(reading::evaluated_as(records, c.inputs, c.gates, c.outputs, assignment))
+}
+
+// Operation 8: size and depth through a reading.
+fn report_reading(records: &[u8], c: Counts) -> Outcome {
+    reported(reading::reported_as(records, c.inputs, c.gates, c.outputs))
+}
+
+// Answers an operation on a reading of these records with these counts.
+fn on_records(operation: u8, records: &[u8], counts: Counts) -> Outcome {
+    match operation {
+        7 => evaluate_reading(records, counts),
+        8 => report_reading(records, counts),
+        _ => Outcome::Unknown(operation),
+    }
+}
+
+// Reads the counts and the records, with which each of these operations begins.
+fn on_reading(operation: u8, buffer: &mut [u8]) -> Outcome {
+    let Claim::Counted(counts) = input::read_counts() else {
+        return Outcome::Cut;
+    };
+    match input::read_part(buffer) {
+        Part::Bytes(n) => on_records(operation, &buffer[..n], counts),
+        Part::Cut => Outcome::Cut,
+        Part::TooLong(n) => Outcome::TooLong(n),
+    }
+}
+
 // Reads one request and answers it.
 fn answer(buffer: &mut [u8]) -> Outcome {
     let Start::Operation(operation) = input::read_operation() else {
@@ -182,6 +228,7 @@ fn answer(buffer: &mut [u8]) -> Outcome {
     };
     match operation {
         1..=6 => on_table(operation, buffer),
+        7..=8 => on_reading(operation, buffer),
         _ => Outcome::Unknown(operation),
     }
 }
