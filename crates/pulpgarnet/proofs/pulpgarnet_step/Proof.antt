@@ -1,0 +1,56 @@
+-- `pulpgarnet::pulpgarnet_step` meets its contract: each case of what `step` answers gives the numbers of its reply.
+use borrow.Author.Needs.{needs}
+use Rattle.rewriting.specs.Calls.{saidStep}
+use Rattle.pulpgarnet.specs.Replies.{steppedReply}
+use Rattle.pulpgarnet.proofs.Told.{told}
+use Rattle.pulpgarnet.proofs.pulpgarnet_step.Statement.{statement}
+use Rattle.pulpgarnet.proofs.pulpgarnet_step.Tie as tie
+
+step-requires : tie.Need-step-requires
+step-requires c κs = search needs
+
+enum-known-used : tie.Need-enum-known-used
+enum-known-used c = search needs
+
+enum-known-refusal : tie.Need-enum-known-refusal
+enum-known-refusal c = search needs
+
+refusal-number-requires : tie.Need-refusal-number-requires
+refusal-number-requires c κs = search needs
+
+refusal-record-requires : tie.Need-refusal-record-requires
+refusal-record-requires c κs = search needs
+
+same-length : tie.Need-same-length
+same-length c = search needs
+
+returns : tie.Need-returns
+returns c =
+    let done = c .before .before .before .before .before in
+    (told steppedReply saidStep (c .before .used .given .1) (done .step .ensures .0), done .step .ensures .1)
+
+same-length-2 : tie.Need-same-length-2
+same-length-2 c = search needs
+
+returns-2 : tie.Need-returns-2
+returns-2 c =
+    let told-refusal = c .before .before .before in
+    let done = told-refusal .before .before .before .before in (
+      rw (c .before .refusal-number .ensures, c .refusal-record .ensures)
+          (told steppedReply saidStep (told-refusal .refusal .given .1) (done .step .ensures .0)),
+      done .step .ensures .1,
+    )
+
+pub pulpgarnet-step-spec : {M : Type 1} → statement M
+pulpgarnet-step-spec =
+    tie.close
+    (tie.spec
+    step-requires
+    enum-known-used
+    enum-known-refusal
+    refusal-number-requires
+    refusal-record-requires
+    same-length
+    returns
+    same-length-2
+    returns-2)

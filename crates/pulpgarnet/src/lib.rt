@@ -1,0 +1,218 @@
+// The static library: every call for C, on pointers with lengths (include/pulpgarnet.h). Each reply is a struct of numbers.
+use rewriting::Ending;
+use tables::refusal_number;
+use tables::refusal_record;
+ghost use mathlib.Core.Path.{_≡_};
+ghost use lib.ListN.{length};
+ghost use Rattle.tables.specs.Calls.{checkOf, evaluateOf, reportOf};
+ghost use Rattle.rewriting.specs.Calls.{stepOf, stepBytes};
+ghost use Rattle.rewriting.specs.Script.{scriptRun};
+ghost use Rattle.rm3.specs.Calls.{translateOf, translateBytes, depthOf};
+ghost use Rattle.pulpgarnet.specs.Replies.{checkedReply, valuedReply, reportedReply, steppedReply, ranReply, writtenReply, deepReply};
+
+// Each struct begins with the refusal's number, 0 for none, and the record that it carries, which the header calls `record`.
+#[repr(C)]
+pub struct Checked {
+    pub refusal: u32,
+    pub at: usize,
+    pub inputs: usize,
+    pub gates: usize,
+    pub outputs: usize,
+}
+
+#[repr(C)]
+pub struct Valued {
+    pub refusal: u32,
+    pub at: usize,
+    pub outputs: u32,
+}
+
+#[repr(C)]
+pub struct Reported {
+    pub refusal: u32,
+    pub at: usize,
+    pub size: usize,
+    pub depth: usize,
+}
+
+#[repr(C)]
+pub struct Stepped {
+    pub refusal: u32,
+    pub at: usize,
+    pub used: usize,
+}
+
+#[repr(C)]
+pub struct Ran {
+    pub refusal: u32,
+    pub at: usize,
+    pub taken: usize,
+    pub used: usize,
+}
+
+#[repr(C)]
+pub struct Written {
+    pub refusal: u32,
+    pub at: usize,
+    pub length: usize,
+}
+
+#[repr(C)]
+pub struct Deep {
+    pub refusal: u32,
+    pub at: usize,
+    pub depth: usize,
+}
+
+// Whether the first used bytes hold a table: its counts.
+#[no_mangle]
+pub extern "C" fn pulpgarnet_check(table: &[u8], used: usize) -> Checked
+    ensures { λ r. ⌜ r ≡ checkedReply (checkOf (now (table .entry)) used) ⌝ }
+{
+    match tables::check(table, used) {
+        tables::Checked::Accepted(counts) => Checked {
+            refusal: 0,
+            at: 0,
+            inputs: counts.inputs,
+            gates: counts.gates,
+            outputs: counts.outputs,
+        },
+        tables::Checked::Refused(refusal) => Checked {
+            refusal: refusal_number(refusal),
+            at: refusal_record(refusal),
+            inputs: 0,
+            gates: 0,
+            outputs: 0,
+        },
+    }
+}
+
+// The outputs' number under an assignment.
+#[no_mangle]
+pub extern "C" fn pulpgarnet_evaluate(table: &[u8], used: usize, assignment: u32) -> Valued
+    ensures { λ r. ⌜ r ≡ valuedReply (evaluateOf (now (table .entry)) used assignment) ⌝ }
+{
+    match tables::evaluate(table, used, assignment) {
+        tables::Valued::Outputs(outputs) => Valued {
+            refusal: 0,
+            at: 0,
+            outputs,
+        },
+        tables::Valued::Refused(refusal) => Valued {
+            refusal: refusal_number(refusal),
+            at: refusal_record(refusal),
+            outputs: 0,
+        },
+    }
+}
+
+// Size and depth.
+#[no_mangle]
+pub extern "C" fn pulpgarnet_report(table: &[u8], used: usize) -> Reported
+    ensures { λ r. ⌜ r ≡ reportedReply (reportOf (now (table .entry)) used) ⌝ }
+{
+    match tables::report(table, used) {
+        tables::Reported::Whole(size) => Reported {
+            refusal: 0,
+            at: 0,
+            size: size.gates,
+            depth: size.depth,
+        },
+        tables::Reported::Refused(refusal) => Reported {
+            refusal: refusal_number(refusal),
+            at: refusal_record(refusal),
+            size: 0,
+            depth: 0,
+        },
+    }
+}
+
+// One step: the new used length.
+#[no_mangle]
+pub extern "C" fn pulpgarnet_step(
+    table: &mut [u8],
+    used: usize,
+    rule: u16,
+    gate: u16,
+    a: u16,
+    b: u16,
+) -> Stepped
+    ensures reply { λ r. ⌜ r ≡ steppedReply (stepOf (now (table .entry)) used rule gate a b) ⌝ }
+    ensures bytes { λ _. ⌜ now (table .exit) ≡ stepBytes (now (table .entry)) used rule gate a b ⌝ }
+{
+    match rewriting::step(table, used, rule, gate, a, b) {
+        rewriting::Stepped::Used(used) => Stepped {
+            refusal: 0,
+            at: 0,
+            used,
+        },
+        rewriting::Stepped::Refused(refusal) => Stepped {
+            refusal: refusal_number(refusal),
+            at: refusal_record(refusal),
+            used: 0,
+        },
+    }
+}
+
+// A script: the steps taken and the used length, also where it was stopped.
+#[no_mangle]
+pub extern "C" fn pulpgarnet_script(table: &mut [u8], used: usize, steps: &[u8]) -> Ran
+    ensures reply { λ r. ⌜ r ≡ ranReply (scriptRun (now (table .entry)) used (now (steps .entry))) ⌝ }
+    ensures bytes { λ _. ⌜ now (table .exit) ≡ scriptRun (now (table .entry)) used (now (steps .entry)) .bytes ⌝ }
+{
+    let done = rewriting::script(table, used, steps);
+    let ending = done.ending;
+    match ending {
+        Ending::Finished => Ran {
+            refusal: 0,
+            at: 0,
+            taken: done.taken,
+            used: done.used,
+        },
+        Ending::Stopped(refusal) => Ran {
+            refusal: refusal_number(refusal),
+            at: refusal_record(refusal),
+            taken: done.taken,
+            used: done.used,
+        },
+    }
+}
+
+// The RM3 table, to the beginning of out: its length.
+#[no_mangle]
+pub extern "C" fn pulpgarnet_translate(table: &[u8], used: usize, out: &mut [u8]) -> Written
+    ensures reply { λ r. ⌜ r ≡ writtenReply (translateOf (now (table .entry)) used (length (now (out .entry)))) ⌝ }
+    ensures bytes { λ _. ⌜ now (out .exit) ≡ translateBytes (now (table .entry)) used (now (out .entry)) ⌝ }
+{
+    match rm3::translate(table, used, out) {
+        rm3::Translated::Length(length) => Written {
+            refusal: 0,
+            at: 0,
+            length,
+        },
+        rm3::Translated::Refused(refusal) => Written {
+            refusal: refusal_number(refusal),
+            at: refusal_record(refusal),
+            length: 0,
+        },
+    }
+}
+
+// The depth of the RM3 table.
+#[no_mangle]
+pub extern "C" fn pulpgarnet_rm3_depth(table: &[u8], used: usize) -> Deep
+    ensures { λ r. ⌜ r ≡ deepReply (depthOf (now (table .entry)) used) ⌝ }
+{
+    match rm3::rm3_depth(table, used) {
+        rm3::Depth::Depth(depth) => Deep {
+            refusal: 0,
+            at: 0,
+            depth,
+        },
+        rm3::Depth::Refused(refusal) => Deep {
+            refusal: refusal_number(refusal),
+            at: refusal_record(refusal),
+            depth: 0,
+        },
+    }
+}

@@ -1,0 +1,67 @@
+/*
+ * Pulpgarnet for C and C++: majority tables, rewriting steps and scripts, RM3 tables (docs/SPEC.md). `rt staticlib pulpgarnet`
+ * writes the archive, target/staticlib/libpulpgarnet.a, for x86-64.
+ *
+ * A buffer is a pointer and its length in bytes. The pointer is never null, also at length 0, and has so many bytes behind it.
+ * The buffers of one call do not overlap, and nobody writes to them before the call returns. No call keeps a pointer, allocates
+ * memory or holds a state, so calls on different buffers may run at the same time.
+ *
+ * `used` is the table's own length, in bytes from the beginning of its buffer. It may be any number: what is wrong is refused.
+ *
+ * A reply begins with `refusal`, 0 for none, else 1 to 12 as README.md lists them, and `record`, the record that refusals 2, 4
+ * and 5 carry, counted from 0, else 0. Where a call is refused it has written nothing and all other numbers are 0;
+ * pulpgarnet_script says what it does instead. Bytes that a call is not said to write stay as they were.
+ */
+#ifndef PULPGARNET_H
+#define PULPGARNET_H
+
+#include <stddef.h>
+#include <stdint.h>
+
+#ifdef __cplusplus
+extern "C" {
+#endif
+
+struct pulpgarnet_checked  { uint32_t refusal; size_t record; size_t inputs, gates, outputs; };
+struct pulpgarnet_valued   { uint32_t refusal; size_t record; uint32_t outputs; };
+struct pulpgarnet_reported { uint32_t refusal; size_t record; size_t size, depth; };
+struct pulpgarnet_stepped  { uint32_t refusal; size_t record; size_t used; };
+struct pulpgarnet_ran      { uint32_t refusal; size_t record; size_t taken, used; };
+struct pulpgarnet_written  { uint32_t refusal; size_t record; size_t length; };
+struct pulpgarnet_deep     { uint32_t refusal; size_t record; size_t depth; };
+
+/* Whether the buffer holds a table: the numbers of its inputs, gates and outputs. Writes nothing. Refusals 1 to 5. */
+struct pulpgarnet_checked pulpgarnet_check(const uint8_t *table, size_t length, size_t used);
+
+/* The outputs under an assignment: bit i-1 of the assignment is input i, bit j-1 of `outputs` is output j. Writes nothing.
+   Refusals 1 to 6. */
+struct pulpgarnet_valued pulpgarnet_evaluate(const uint8_t *table, size_t length, size_t used, uint32_t assignment);
+
+/* The number of gates, and the depth. Writes nothing. Refusals 1 to 5. */
+struct pulpgarnet_reported pulpgarnet_report(const uint8_t *table, size_t length, size_t used);
+
+/* Applies one step, and returns the new used length. Writes the table, no byte past the larger of its old and its new used
+   length: where the table became shorter, the bytes between the two become 0. Refusals 1 to 5, 7 to 11. */
+struct pulpgarnet_stepped pulpgarnet_step(uint8_t *table, size_t length, size_t used,
+                                          uint16_t rule, uint16_t gate, uint16_t a, uint16_t b);
+
+/* Takes the steps of a script, 8 bytes each, in order until one is refused. Returns the number of steps taken and the used
+   length after them, also where `refusal` says why the next step, or the whole script, was refused: then `taken` steps stand.
+   Where the table or the script's length is refused, `taken` is 0 and `used` the number given. Writes the table, just as
+   `taken` calls of pulpgarnet_step would. Refusals 1 to 5, 7 to 12. */
+struct pulpgarnet_ran pulpgarnet_script(uint8_t *table, size_t length, size_t used,
+                                        const uint8_t *steps, size_t steps_length);
+
+/* Writes the RM3 table to the first `length` bytes of out, and returns that length; the table stays as it was. 25,344 bytes
+   are enough for any. Refusals 1 to 5, 11. */
+struct pulpgarnet_written pulpgarnet_translate(const uint8_t *table, size_t length, size_t used,
+                                               uint8_t *out, size_t out_length);
+
+/* The depth of the RM3 table. Writes nothing. Refusals 1 to 5. */
+struct pulpgarnet_deep pulpgarnet_rm3_depth(const uint8_t *table, size_t length, size_t used);
+
+#ifdef __cplusplus
+}
+#endif
+
+#endif
