@@ -1,0 +1,125 @@
+/* Answers the requests of majpipe (docs/SPEC.md, 9.1) through the C library, so that the evaluator can be compared with it. */
+#include <stdio.h>
+#include <stdlib.h>
+
+#include "pulpgarnet.h"
+
+enum { MOST = 65536 };
+
+struct part { size_t length; uint8_t bytes[MOST]; };
+
+static struct part table, script, out;
+
+static _Noreturn void end(const char *wrong)
+{
+    fprintf(stderr, "pipe: %s\n", wrong);
+    exit(1);
+}
+
+static void get(void *bytes, size_t length)
+{
+    if (length > 0 && fread(bytes, 1, length, stdin) != length)
+        end("the input ended inside a request");
+}
+
+static size_t get_number(size_t width)
+{
+    uint8_t b[4] = {0};
+    get(b, width);
+    return b[0] | (size_t)b[1] << 8 | (size_t)b[2] << 16 | (size_t)b[3] << 24;
+}
+
+static void get_part(struct part *part)
+{
+    part->length = get_number(4);
+    if (part->length > MOST)
+        end("a part is too long");
+    get(part->bytes, part->length);
+}
+
+static void put_number(size_t n)
+{
+    uint8_t b[4] = {n, n >> 8, n >> 16, n >> 24};
+    fwrite(b, 1, sizeof b, stdout);
+}
+
+static void put_part(const struct part *part)
+{
+    fwrite(part->bytes, 1, part->length, stdout);
+}
+
+/* The three numbers that begin each reply. */
+static void put_refusal(uint32_t refusal, size_t record)
+{
+    put_number(refusal);
+    put_number(record);
+    put_number(0);
+}
+
+static void check(size_t used)
+{
+    struct pulpgarnet_checked r = pulpgarnet_check(table.bytes, table.length, used);
+    put_refusal(r.refusal, r.record);
+    put_number(r.inputs);
+    put_number(r.gates);
+    put_number(r.outputs);
+}
+
+static void evaluate(size_t used)
+{
+    uint32_t assignment = get_number(4);
+    struct pulpgarnet_valued r = pulpgarnet_evaluate(table.bytes, table.length, used, assignment);
+    put_refusal(r.refusal, r.record);
+    put_number(r.outputs);
+}
+
+static void report(size_t used)
+{
+    struct pulpgarnet_reported r = pulpgarnet_report(table.bytes, table.length, used);
+    put_refusal(r.refusal, r.record);
+    put_number(r.size);
+    put_number(r.depth);
+}
+
+static void step(size_t used)
+{
+    uint16_t rule = get_number(2), gate = get_number(2), a = get_number(2), b = get_number(2);
+    struct pulpgarnet_stepped r = pulpgarnet_step(table.bytes, table.length, used, rule, gate, a, b);
+    put_refusal(r.refusal, r.record);
+    put_number(r.used);
+    put_part(&table);
+}
+
+static void run(size_t used)
+{
+    get_part(&script);
+    struct pulpgarnet_ran r = pulpgarnet_script(table.bytes, table.length, used, script.bytes, script.length);
+    put_refusal(r.refusal, r.record);
+    put_number(r.taken);
+    put_number(r.used);
+    put_part(&table);
+}
+
+static void translate(size_t used)
+{
+    get_part(&out);
+    struct pulpgarnet_written r = pulpgarnet_translate(table.bytes, table.length, used, out.bytes, out.length);
+    put_refusal(r.refusal, r.record);
+    put_number(r.length);
+    put_part(&out);
+}
+
+int main(void)
+{
+    static void (*const calls[])(size_t) = {check, evaluate, report, step, run, translate};
+    uint8_t operation;
+    while (fread(&operation, 1, 1, stdin) == 1) {
+        if (operation < 1 || operation > sizeof calls / sizeof *calls)
+            end("there is no such operation");
+        size_t used = get_number(4);
+        get_part(&table);
+        calls[operation - 1](used);
+        fflush(stdout);
+    }
+    return 0;
+}
