@@ -1,4 +1,4 @@
-/* Answers the requests of majpipe (docs/SPEC.md, 9.1) through the C library, so that the evaluator can be compared with it. */
+/* Answers the requests of majpipe (docs/SPEC.md, 9.1) through the static library, so that the evaluator can be compared with it. */
 #include <stdio.h>
 #include <stdlib.h>
 
