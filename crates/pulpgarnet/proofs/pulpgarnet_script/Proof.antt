@@ -1,8 +1,6 @@
 -- `pulpgarnet::pulpgarnet_script` meets its contract: each case of how the script ended gives the numbers of its reply.
 use borrow.Author.Needs.{needs}
 use mathlib.Core.Path.{ap}
-use mathlib.Core.List.{List}
-use Prim.Native.Nat.{ℕ}
 use Rattle.rewriting.specs.Script.{Run}
 use Rattle.pulpgarnet.specs.Replies.{ranReply}
 use Rattle.pulpgarnet.proofs.pulpgarnet_script.Statement.{statement}
