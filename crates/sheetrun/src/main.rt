@@ -1,0 +1,144 @@
+// Runs the limits of the sheet of small tables: makes each table, asks the library, and prints what was asked and answered, a line each.
+ghost use Prim.Native.Nat.{_≤_};
+use majority::Record;
+use rewriting::Stepped;
+use tables::Checked;
+use tables::Refusal;
+use text::Line;
+
+// An input.
+fn input() -> Record {
+    Record {
+        kind: majority::INPUT,
+        e1: 0,
+        e2: 0,
+        e3: 0,
+    }
+}
+
+// The gate M(x1, 0, edge).
+fn gate(edge: u16) -> Record {
+    Record {
+        kind: majority::GATE,
+        e1: 2,
+        e2: 0,
+        e3: edge,
+    }
+}
+
+// The output that is false.
+fn output() -> Record {
+    Record {
+        kind: majority::OUTPUT,
+        e1: 0,
+        e2: 0,
+        e3: 0,
+    }
+}
+
+// Puts r as each record from `from` up to `to`.
+fn fill(table: &mut [u8; text::MOST_BYTES], from: usize, to: usize, r: Record) {
+    let mut i = from;
+    while i < to {
+        tables::put_record(table, i, r);
+        i += 1;
+    }
+}
+
+// Makes a table of so many inputs, so many gates that read the edge, and one output, and answers its length.
+fn make(table: &mut [u8; text::MOST_BYTES], inputs: u16, gates: u16, edge: u16) -> usize {
+    let nodes = inputs as usize + gates as usize;
+    fill(table, 0, inputs as usize, input());
+    fill(table, inputs as usize, nodes, gate(edge));
+    tables::put_record(table, nodes, output());
+    8 * (nodes + 1)
+}
+
+// What was asked, before what is answered.
+fn asked(what: &[u8], number: u16, rest: &[u8]) -> Line {
+    Line::empty()
+        .word(what)
+        .number(number as u64)
+        .word(rest)
+        .word(b": ")
+}
+
+// Answers with a refusal.
+fn print_refused(line: Line, r: Refusal) {
+    line.refused(tables::refusal_number(r), tables::refusal_record(r))
+        .print();
+}
+
+// Checks the table and prints the answer.
+fn check(line: Line, table: &[u8; text::MOST_BYTES], used: usize) {
+    match tables::check(table, used) {
+        Checked::Accepted(c) => {
+            line.word(b"accepted, inputs ")
+                .number(c.inputs as u64)
+                .word(b" gates ")
+                .number(c.gates as u64)
+                .word(b" outputs ")
+                .number(c.outputs as u64)
+                .print();
+        }
+        Checked::Refused(r) => print_refused(line, r),
+    }
+}
+
+// A table of inputs alone.
+fn inputs(count: u16) {
+    let mut table = [0u8; text::MOST_BYTES];
+    let used = make(&mut table, count, 0, 0);
+    check(asked(b"inputs ", count, b""), &table, used);
+}
+
+// A table of two inputs and so many gates.
+fn gates(count: u16) {
+    let mut table = [0u8; text::MOST_BYTES];
+    let used = make(&mut table, 2, count, 4);
+    check(asked(b"gates ", count, b""), &table, used);
+}
+
+// A table of two inputs and one gate, node 3, which reads the edge.
+fn gate_3(edge: u16) {
+    let mut table = [0u8; text::MOST_BYTES];
+    let used = make(&mut table, 2, 1, edge);
+    check(asked(b"gate 3 reads edge ", edge, b""), &table, used);
+}
+
+// Has the last of so many gates read the first, node 3, takes rule 3 on it, and prints the answer.
+fn associativity(table: &mut [u8; text::MOST_BYTES], used: usize, count: u16)
+    requires { ⌜ count ≤ 1024 ⌝ }
+{
+    let line = asked(b"rule 3 at ", count, b" gates");
+    tables::put_record(table, count as usize + 1, gate(6));
+    match rewriting::step(table, used, 3, count + 2, 0, 0) {
+        Stepped::Used(n) => {
+            line.word(b"accepted, length ").number(n as u64).print();
+        }
+        Stepped::Refused(r) => print_refused(line, r),
+    }
+}
+
+// A table of two inputs and so many gates, for rule 3.
+fn rule_3(count: u16)
+    requires { ⌜ count ≤ 1024 ⌝ }
+{
+    let mut table = [0u8; text::MOST_BYTES];
+    let used = make(&mut table, 2, count, 4);
+    associativity(&mut table, used, count);
+}
+
+fn main() {
+    if !text::no_arguments(b"sheetrun: it takes no argument and no input; call it as: sheetrun\n") {
+        return;
+    }
+    inputs(32);
+    inputs(33);
+    gates(1024);
+    gates(1025);
+    rule_3(1024);
+    rule_3(1023);
+    gate_3(6);
+    gate_3(5);
+}
