@@ -1,0 +1,30 @@
+#!/usr/bin/env python3
+"""sums.py TABLE: asks majpipe for the outputs of an 8-bit adder (see ripple.py) under each assignment, and compares them with
+Python's own sums. It is run with the repository's root as current folder."""
+import itertools, struct, subprocess, sys
+
+EVALUATE = 2
+
+
+def ask(pipe, table, assignment):
+    """The outputs' number: the request has the used length, the table with its length, and the assignment."""
+    request = struct.pack("<BII", EVALUATE, len(table), len(table)) + table + struct.pack("<I", assignment)
+    pipe.stdin.write(request)
+    pipe.stdin.flush()
+    refusal, record, _, outputs = struct.unpack("<IIII", pipe.stdout.read(16))
+    if refusal:
+        sys.exit(f"refused {refusal} at {record}")
+    return outputs
+
+
+(path,) = sys.argv[1:]
+with open(path, "rb") as file:
+    table = file.read()
+with subprocess.Popen(["./run", "majpipe"], stdin=subprocess.PIPE, stdout=subprocess.PIPE) as pipe:
+    right = 0
+    for carry, a, b in itertools.product((0, 1), range(256), range(256)):
+        outputs = ask(pipe, table, a | b << 8 | carry << 16)
+        if outputs != a + b + carry:
+            sys.exit(f"{a} + {b} + {carry} gives {outputs}")
+        right += 1
+print(right, "sums are right")
