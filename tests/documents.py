@@ -18,6 +18,10 @@ PROMPT, MORE = "$ ", "> "
 INDENT = 4 * " "
 SECONDS = 60
 LINKED = {"crates", "target", "tests"}  # folders that are too large to copy
+RUN = """#!/bin/sh
+case $1 in --*) ;; *) set -- --built "$@" ;; esac
+exec {root}/run "$@"
+"""
 
 
 def blocks(lines):
@@ -62,7 +66,7 @@ def room_for_commands(room):
             (room / path.name).symlink_to(path)
         elif path.is_dir() and path.name != ".git":
             shutil.copytree(path, room / path.name)
-    (room / "run").write_text(f'#!/bin/sh\nexec {shlex.quote(str(ROOT))}/run --built "$@"\n')
+    (room / "run").write_text(RUN.format(root=shlex.quote(str(ROOT))))
     (room / "run").chmod(0o755)
 
 
