@@ -114,10 +114,14 @@ def check(document):
     return passed, len(failures)
 
 
+def documents():
+    """Every document of the repository."""
+    tops = (path for path in ROOT.iterdir() if path.name not in {".git", "target"})
+    return sorted(path for top in tops for path in (top.rglob("*.md") if top.is_dir() else [top]) if path.suffix == ".md")
+
+
 def main():
-    documents = [pathlib.Path(name) for name in sys.argv[1:]]
-    documents = documents or sorted(path for folder in (".", "docs", "examples") for path in (ROOT / folder).glob("*.md"))
-    counts = [check(document) for document in documents]
+    counts = [check(document) for document in [pathlib.Path(name) for name in sys.argv[1:]] or documents()]
     passed, failed = (sum(column) for column in zip(*counts))
     print(f"{passed} passed, {failed} failed")
     return failed > 0
