@@ -1,14 +1,18 @@
-// The form that each rule asks of its gate.
-use crate::fields::ASSOCIATIVITY;
-use crate::fields::INWARD;
-use crate::fields::MAJORITY;
-use crate::fields::OUTWARD;
-use crate::fields::SHARE;
+// Whether a gate of the table has the form that its rule asks for.
 use majority::Counts;
 use majority::Record;
-use majority::flipped;
-use majority::inverted;
 use majority::node;
+use rules::ASSOCIATIVITY;
+use rules::INWARD;
+use rules::MAJORITY;
+use rules::OUTWARD;
+use rules::SHARE;
+use rules::associativity_form;
+use rules::inward_form;
+use rules::majority_form;
+use rules::outward_form;
+use rules::plain_gate;
+use rules::share_form;
 use tables::record_at;
 ghost use mathlib.Core.Path.{_≡_};
 ghost use mathlib.Core.Bool.{true};
@@ -16,7 +20,7 @@ ghost use Prim.Native.Nat.{_+_, _≤_, _<_};
 ghost use Rattle.majority.specs.Edge.{nodeOf};
 ghost use Rattle.majority.specs.Table.{Below};
 ghost use Rattle.majority.specs.Edit.{nodeRecord};
-ghost use Rattle.majority.specs.Rules.{plainGate, named, majorityForm, associativityForm, outwardForm, inwardForm, shareForm};
+ghost use Rattle.majority.specs.Rules.{named, associativityForm, inwardForm};
 ghost use Rattle.majority.specs.Step.{fieldsFit, hasForm};
 ghost use Rattle.tables.specs.Worths.{Sound, tableIn};
 
@@ -36,49 +40,31 @@ pub(crate) fn named_record(s: &[u8], counts: Counts, edge: u16) -> Record
     node_record(s, counts, node(edge))
 }
 
-// The edge names a gate and is not inverted.
-fn plain_gate(counts: Counts, edge: u16) -> bool
-    ensures { λ r. ⌜ r ≡ plainGate (counts .inputs) edge ⌝ }
-{
-    !inverted(edge) & (counts.inputs < node(edge) as usize)
-}
-
-fn majority_form(r: Record) -> bool
-    ensures { λ b. ⌜ b ≡ majorityForm r ⌝ }
-{
-    (r.e2 == r.e1) | (r.e2 == flipped(r.e1))
-}
-
-fn associativity_form(s: &[u8], counts: Counts, r: Record) -> bool
+// The gate has associativity's form.
+fn in_associativity_form(s: &[u8], counts: Counts, r: Record) -> bool
     requires { ⌜ Sound (now s) counts × (nodeOf (r .e3) ≤ counts .inputs + counts .gates) ⌝ }
     ensures { λ b. ⌜ b ≡ associativityForm (counts .inputs) r (named (tableIn (now (s .entry)) counts) (r .e3)) ⌝ }
 {
-    if plain_gate(counts, r.e3) {
-        let h = named_record(s, counts, r.e3);
-        return h.e2 == r.e2;
+    if plain_gate(counts.inputs, r.e3) {
+        return associativity_form(counts.inputs, r, named_record(s, counts, r.e3));
     }
     false
 }
 
-fn inward_form(s: &[u8], counts: Counts, r: Record) -> bool
+// The gate has the form of distributivity inward.
+fn in_inward_form(s: &[u8], counts: Counts, r: Record) -> bool
     requires { ⌜ Sound (now s) counts × (nodeOf (r .e1) ≤ counts .inputs + counts .gates) × (nodeOf (r .e2) ≤ counts .inputs + counts .gates) ⌝ }
     ensures { λ b. ⌜ b ≡ inwardForm (counts .inputs) r (named (tableIn (now (s .entry)) counts) (r .e1)) (named (tableIn (now (s .entry)) counts) (r .e2)) ⌝ }
 {
-    if plain_gate(counts, r.e1) {
-        if plain_gate(counts, r.e2) {
-            let p = named_record(s, counts, r.e1);
-            let q = named_record(s, counts, r.e2);
-            return (q.e1 == p.e1) & (q.e2 == p.e2);
-        }
-        return false;
+    if plain_gate(counts.inputs, r.e1) & plain_gate(counts.inputs, r.e2) {
+        return inward_form(
+            counts.inputs,
+            r,
+            named_record(s, counts, r.e1),
+            named_record(s, counts, r.e2),
+        );
     }
     false
-}
-
-fn share_form(r: Record, other: Record) -> bool
-    ensures { λ b. ⌜ b ≡ shareForm r other ⌝ }
-{
-    (other.e1 == r.e1) & (other.e2 == r.e2) & (other.e3 == r.e3)
 }
 
 // The gate has the rule's form. The rules that ask for none are exchange, inversion and sweep.
@@ -90,13 +76,13 @@ pub(crate) fn has_form(s: &[u8], counts: Counts, rule: u16, gate: u16, a: u16, b
         return majority_form(node_record(s, counts, gate));
     }
     if rule == ASSOCIATIVITY {
-        return associativity_form(s, counts, node_record(s, counts, gate));
+        return in_associativity_form(s, counts, node_record(s, counts, gate));
     }
     if rule == OUTWARD {
-        return plain_gate(counts, node_record(s, counts, gate).e3);
+        return outward_form(counts.inputs, node_record(s, counts, gate));
     }
     if rule == INWARD {
-        return inward_form(s, counts, node_record(s, counts, gate));
+        return in_inward_form(s, counts, node_record(s, counts, gate));
     }
     if rule == SHARE {
         return share_form(node_record(s, counts, gate), node_record(s, counts, a));

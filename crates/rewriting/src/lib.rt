@@ -1,8 +1,7 @@
 // Steps and scripts on a table in a lent slice.
 mod applying;
-mod fields;
+mod changing;
 mod forms;
-mod rules;
 mod running;
 mod sweeping;
 

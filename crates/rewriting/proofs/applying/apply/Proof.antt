@@ -20,8 +20,7 @@ returns : tie.Need-returns
 returns c = applied-refused Rule (refuse-7 _ _ _ _ _ _ _ _ (sym (c .before .bad-rule .ensures) ∙ c .if1 .taken))
 
 fields-fit-requires : tie.Need-fields-fit-requires
-fields-fit-requires c κs = let l = sound-accepted (c .before .before .before .pre) .limits in
-    (l .inputs, l .gates)
+fields-fit-requires c κs = search needs
 
 returns-2 : tie.Need-returns-2
 returns-2 c = applied-refused Field (refuse-8 _ _ _ _ _ _ _ _ (sym (c .before .before .before .bad-rule .ensures) ∙ c .before .before .if1 .left) (sym (c .before .fields-fit .ensures) ∙ not-true _ (c .if2 .taken)))

@@ -3,7 +3,7 @@ use borrow.Author.Needs.{needs}
 use mathlib.Core.Path.{_≡_, refl, sym, ap, _∙_}
 use native.Mathlib.Omega.{arith}
 use borrow.Author.Tests.{eq-eqb, ne-eqb}
-use Rattle.majority.specs.Rules.{majorityForm, outwardForm}
+use Rattle.majority.specs.Rules.{majorityForm}
 use Rattle.majority.specs.Step.{hasForm}
 use Rattle.rewriting.proofs.Gate.{at-gate, share-gate, gate-low}
 use Rattle.rewriting.proofs.forms.has_form.Statement.{statement}
@@ -24,36 +24,36 @@ node-record-requires-2 : tie.Need-node-record-requires-2
 node-record-requires-2 c κs = let at = at-gate (c .before .before .before .pre .0) _ _ _ _ (c .before .before .before .pre .1) (λ e. omega (arith, c .if2 .taken)) in
     (c .before .before .before .pre .0, omega (arith, at .from), at .upto)
 
-associativity-form-requires : tie.Need-associativity-form-requires
-associativity-form-requires c κs = let at = at-gate (c .before .before .before .before .pre .0) _ _ _ _ (c .before .before .before .before .pre .1) (λ e. omega (arith, c .before .if2 .taken)) in
+in-associativity-form-requires : tie.Need-in-associativity-form-requires
+in-associativity-form-requires c κs = let at = at-gate (c .before .before .before .before .pre .0) _ _ _ _ (c .before .before .before .before .pre .1) (λ e. omega (arith, c .before .if2 .taken)) in
     (c .before .before .before .before .pre .0, rw (c .node-record2 .ensures) (omega (arith, gate-low at .third, at .upto)))
 
 returns-2 : tie.Need-returns-2
 unfolding hasForm
-returns-2 c = rw (ne-eqb _ _ (c .before .before .before .if1 .left), eq-eqb _ _ (c .before .before .if2 .taken), ← c .before .node-record2 .ensures) (c .associativity-form .ensures)
+returns-2 c = rw (ne-eqb _ _ (c .before .before .before .if1 .left), eq-eqb _ _ (c .before .before .if2 .taken), ← c .before .node-record2 .ensures) (c .in-associativity-form .ensures)
 
 node-record-requires-3 : tie.Need-node-record-requires-3
 node-record-requires-3 c κs = let at = at-gate (c .before .before .before .before .pre .0) _ _ _ _ (c .before .before .before .before .pre .1) (λ e. omega (arith, c .if3 .taken)) in
     (c .before .before .before .before .pre .0, omega (arith, at .from), at .upto)
 
-plain-gate-requires : tie.Need-plain-gate-requires
-plain-gate-requires c κs = search needs
+outward-form-requires : tie.Need-outward-form-requires
+outward-form-requires c κs = search needs
 
 returns-3 : tie.Need-returns-3
-unfolding hasForm outwardForm
-returns-3 c = rw (ne-eqb _ _ (c .before .before .before .before .if1 .left), ne-eqb _ _ (c .before .before .before .if2 .left), eq-eqb _ _ (c .before .before .if3 .taken), ← c .before .node-record3 .ensures) (c .plain-gate .ensures)
+unfolding hasForm
+returns-3 c = rw (ne-eqb _ _ (c .before .before .before .before .if1 .left), ne-eqb _ _ (c .before .before .before .if2 .left), eq-eqb _ _ (c .before .before .if3 .taken), ← c .before .node-record3 .ensures) (c .outward-form .ensures)
 
 node-record-requires-4 : tie.Need-node-record-requires-4
 node-record-requires-4 c κs = let at = at-gate (c .before .before .before .before .before .pre .0) _ _ _ _ (c .before .before .before .before .before .pre .1) (λ e. omega (arith, c .if4 .taken)) in
     (c .before .before .before .before .before .pre .0, omega (arith, at .from), at .upto)
 
-inward-form-requires : tie.Need-inward-form-requires
-inward-form-requires c κs = let at = at-gate (c .before .before .before .before .before .before .pre .0) _ _ _ _ (c .before .before .before .before .before .before .pre .1) (λ e. omega (arith, c .before .if4 .taken)) in
+in-inward-form-requires : tie.Need-in-inward-form-requires
+in-inward-form-requires c κs = let at = at-gate (c .before .before .before .before .before .before .pre .0) _ _ _ _ (c .before .before .before .before .before .before .pre .1) (λ e. omega (arith, c .before .if4 .taken)) in
     (c .before .before .before .before .before .before .pre .0, rw (c .node-record4 .ensures) (omega (arith, gate-low at .first, at .upto)), rw (c .node-record4 .ensures) (omega (arith, gate-low at .second, at .upto)))
 
 returns-4 : tie.Need-returns-4
 unfolding hasForm
-returns-4 c = rw (ne-eqb _ _ (c .before .before .before .before .before .if1 .left), ne-eqb _ _ (c .before .before .before .before .if2 .left), ne-eqb _ _ (c .before .before .before .if3 .left), eq-eqb _ _ (c .before .before .if4 .taken), ← c .before .node-record4 .ensures) (c .inward-form .ensures)
+returns-4 c = rw (ne-eqb _ _ (c .before .before .before .before .before .if1 .left), ne-eqb _ _ (c .before .before .before .before .if2 .left), ne-eqb _ _ (c .before .before .before .if3 .left), eq-eqb _ _ (c .before .before .if4 .taken), ← c .before .node-record4 .ensures) (c .in-inward-form .ensures)
 
 node-record-requires-5 : tie.Need-node-record-requires-5
 node-record-requires-5 c κs = let at = at-gate (c .before .before .before .before .before .before .pre .0) _ _ _ _ (c .before .before .before .before .before .before .pre .1) (λ e. omega (arith, c .if5 .taken)) in
@@ -82,13 +82,13 @@ has-form-spec =
     majority-form-requires
     returns
     node-record-requires-2
-    associativity-form-requires
+    in-associativity-form-requires
     returns-2
     node-record-requires-3
-    plain-gate-requires
+    outward-form-requires
     returns-3
     node-record-requires-4
-    inward-form-requires
+    in-inward-form-requires
     returns-4
     node-record-requires-5
     node-record-requires-6

@@ -1,0 +1,24 @@
+-- `fields::a_fits` meets its contract: each return is one case of the definition.
+use borrow.Author.Needs.{needs}
+use mathlib.Core.Path.{_≡_, refl, sym, ap, _∙_}
+use borrow.Author.Tests.{eq-eqb, ne-eqb}
+use Prim.Native.Nat.{_<_}
+use mathlib.Core.Bool.{Bool, _&&_}
+use lib.Dec.{ltb}
+use Rattle.rules.proofs.fields.a_fits.Statement.{statement}
+use Rattle.rules.proofs.fields.a_fits.Tie as tie
+
+returns : tie.Need-returns
+returns c = rw (eq-eqb _ _ (c .if1 .taken))
+
+is-gate-requires : tie.Need-is-gate-requires
+is-gate-requires c κs = search needs
+
+returns-2 : tie.Need-returns-2
+returns-2 c = rw (ne-eqb _ _ (c .before .before .if1 .left), eq-eqb _ _ (c .before .if2 .taken)) (cc)
+
+returns-3 : tie.Need-returns-3
+returns-3 c = rw (ne-eqb _ _ (c .before .if1 .left), ne-eqb _ _ (c .if2 .left))
+
+pub a-fits-spec : {M : Type 1} → statement M
+a-fits-spec = tie.close (tie.spec returns is-gate-requires returns-2 returns-3)

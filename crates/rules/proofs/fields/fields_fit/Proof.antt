@@ -1,0 +1,19 @@
+-- `fields::fields_fit` meets its contract.
+use borrow.Author.Needs.{needs}
+use mathlib.Core.Path.{_≡_, refl, sym, ap, _∙_}
+use Rattle.majority.specs.Step.{fieldsFit}
+use Rattle.rules.proofs.fields.fields_fit.Statement.{statement}
+use Rattle.rules.proofs.fields.fields_fit.Tie as tie
+
+gate-fits-requires : tie.Need-gate-fits-requires
+gate-fits-requires c κs = search needs
+
+a-fits-requires : tie.Need-a-fits-requires
+a-fits-requires c κs = search needs
+
+returns : tie.Need-returns
+unfolding fieldsFit
+returns c = cc
+
+pub fields-fit-spec : {M : Type 1} → statement M
+fields-fit-spec = tie.close (tie.spec gate-fits-requires a-fits-requires returns)

@@ -1,0 +1,32 @@
+// The rules by value: the fields that a step may have, the form that a rule asks of its gate, and the gates and edges that it makes.
+mod fields;
+mod forms;
+mod gates;
+
+pub use fields::ASSOCIATIVITY;
+pub use fields::EXCHANGE;
+pub use fields::INVERSION;
+pub use fields::INWARD;
+pub use fields::MAJORITY;
+pub use fields::OUTWARD;
+pub use fields::SHARE;
+pub use fields::SWEEP;
+pub use fields::bad_rule;
+pub use fields::fields_fit;
+pub use fields::inserted;
+pub use forms::associativity_form;
+pub use forms::inward_form;
+pub use forms::majority_form;
+pub use forms::outward_form;
+pub use forms::plain_gate;
+pub use forms::share_form;
+pub use gates::associativity_gate;
+pub use gates::associativity_new;
+pub use gates::exchanged;
+pub use gates::inverted_gate;
+pub use gates::inward_gate;
+pub use gates::inward_new;
+pub use gates::majority_edge;
+pub use gates::outward_first;
+pub use gates::outward_gate;
+pub use gates::outward_second;
