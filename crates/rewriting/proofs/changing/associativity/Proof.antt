@@ -58,10 +58,10 @@ returns c = let start = c .before .before .before .before .before .before .befor
     let r = c .before .before .before .before .before .before .before .before .before .before .before .before .before .node-record .ensures in
     let h = c .before .before .before .before .before .before .before .before .before .before .before .named-record .ensures ∙ ap (λ (q : Record). named t (q .e3)) r in
     let new : c .before .before .before .before .before .before .before .before .associativity-new .result ≡ gate (named t (nodeRecord t (a .gate) .e3) .e1) (nodeRecord t (a .gate) .e2) (nodeRecord t (a .gate) .e1) =
-    c .before .before .before .before .before .before .before .before .associativity-new .ensures ∙ cc
+    c .before .before .before .before .before .before .before .before .associativity-new .ensures ∙ ap₂ (λ (x y : Record). gate (y .e1) (x .e2) (x .e1)) r h
     in
     let last : c .before .before .before .associativity-gate .result ≡ gate (named t (nodeRecord t (a .gate) .e3) .e3) (nodeRecord t (a .gate) .e2) (2 * a .gate) =
-    c .before .before .before .associativity-gate .ensures ∙ cc
+    c .before .before .before .associativity-gate .ensures ∙ ap₂ (λ (x y : Record). gate (y .e3) (x .e2) (2 * a .gate)) r h
     in
     insert-then-put at _ _ (start .pre .2)
     (c .before .before .before .before .before .before .before .insert .ensures ∙ ap₂ (λ (n : ℕ) (q : Record). insertedAt (a .s .now) n (a .gate) q) (c .before .before .before .before .before .before .before .before .before .records .ensures) new)

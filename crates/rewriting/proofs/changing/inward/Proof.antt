@@ -57,14 +57,15 @@ returns c = let start = c .before .before .before .before .before .before .befor
     let a = start .args in
     let at = start .pre .0 in
     let t = tableIn (a .s .now) (a .counts) in
-    let r = c .before .before .before .before .before .before .before .before .before .before .before .before .before .before .before .node-record .ensures in
+    let d = c .before .before .before .before .before .before .before .before .before .before .before .before .before .before .before in
+    let r = d .node-record .ensures in
     let p = c .before .before .before .before .before .before .before .before .before .before .before .before .before .named-record .ensures ∙ ap (λ (x : Record). named t (x .e1)) r in
     let q = c .before .before .before .before .before .before .before .before .before .before .before .named-record2 .ensures ∙ ap (λ (x : Record). named t (x .e2)) r in
     let new : c .before .before .before .before .before .before .before .before .inward-new .result ≡ gate (named t (nodeRecord t (a .gate) .e1) .e3) (named t (nodeRecord t (a .gate) .e2) .e3) (nodeRecord t (a .gate) .e3) =
-    c .before .before .before .before .before .before .before .before .inward-new .ensures ∙ cc
+    c .before .before .before .before .before .before .before .before .inward-new .ensures ∙ ap₂ (λ (x y : Record). gate (x .e3) (y .e3) (d .node-record .result .e3)) p q ∙ ap (λ (x : Record). gate (named t (nodeRecord t (a .gate) .e1) .e3) (named t (nodeRecord t (a .gate) .e2) .e3) (x .e3)) r
     in
     let last : c .before .before .before .inward-gate .result ≡ gate (named t (nodeRecord t (a .gate) .e1) .e1) (named t (nodeRecord t (a .gate) .e1) .e2) (2 * a .gate) =
-    c .before .before .before .inward-gate .ensures ∙ cc
+    c .before .before .before .inward-gate .ensures ∙ ap (λ (x : Record). gate (x .e1) (x .e2) (2 * a .gate)) p
     in
     insert-then-put at _ _ (start .pre .2)
     (c .before .before .before .before .before .before .before .insert .ensures ∙ ap₂ (λ (n : ℕ) (x : Record). insertedAt (a .s .now) n (a .gate) x) (c .before .before .before .before .before .before .before .before .before .records .ensures) new)

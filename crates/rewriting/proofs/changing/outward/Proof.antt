@@ -38,8 +38,8 @@ insert-two-requires c κs = let start = c .before .before .before .before .befor
     let t = tableIn (a .s .now) (a .counts) in
     let r = c .before .before .before .before .before .node-record .ensures in
     let h = c .before .before .before .named-record .ensures ∙ ap (λ (q : Record). named t (q .e3)) r in
-    let p : c .before .outward-first .result ≡ gate (nodeRecord t (a .gate) .e1) (nodeRecord t (a .gate) .e2) (named t (nodeRecord t (a .gate) .e3) .e1) = c .before .outward-first .ensures ∙ cc in
-    let q : c .outward-second .result ≡ gate (nodeRecord t (a .gate) .e1) (nodeRecord t (a .gate) .e2) (named t (nodeRecord t (a .gate) .e3) .e2) = c .outward-second .ensures ∙ cc in
+    let p : c .before .outward-first .result ≡ gate (nodeRecord t (a .gate) .e1) (nodeRecord t (a .gate) .e2) (named t (nodeRecord t (a .gate) .e3) .e1) = c .before .outward-first .ensures ∙ ap₂ (λ (x y : Record). gate (x .e1) (x .e2) (y .e1)) r h in
+    let q : c .outward-second .result ≡ gate (nodeRecord t (a .gate) .e1) (nodeRecord t (a .gate) .e2) (named t (nodeRecord t (a .gate) .e3) .e2) = c .outward-second .ensures ∙ ap₂ (λ (x y : Record). gate (x .e1) (x .e2) (y .e2)) r h in
     (at, start .pre .2, rw (p, q) (outward-gates at (start .pre .1)))
 
 add-put-record : tie.Need-add-put-record
@@ -77,9 +77,9 @@ returns c = let start = c .before .before .before .before .before .before .befor
     let t = tableIn (a .s .now) (a .counts) in
     let r = c .before .before .before .before .before .before .before .before .before .before .before .before .before .node-record .ensures in
     let h = c .before .before .before .before .before .before .before .before .before .before .before .named-record .ensures ∙ ap (λ (q : Record). named t (q .e3)) r in
-    let p : c .before .before .before .before .before .before .before .before .before .outward-first .result ≡ gate (nodeRecord t (a .gate) .e1) (nodeRecord t (a .gate) .e2) (named t (nodeRecord t (a .gate) .e3) .e1) = c .before .before .before .before .before .before .before .before .before .outward-first .ensures ∙ cc in
-    let q : c .before .before .before .before .before .before .before .before .outward-second .result ≡ gate (nodeRecord t (a .gate) .e1) (nodeRecord t (a .gate) .e2) (named t (nodeRecord t (a .gate) .e3) .e2) = c .before .before .before .before .before .before .before .before .outward-second .ensures ∙ cc in
-    let last : c .before .before .before .outward-gate .result ≡ gate (2 * a .gate) (2 * (a .gate + 1)) (named t (nodeRecord t (a .gate) .e3) .e3) = c .before .before .before .outward-gate .ensures ∙ cc in
+    let p : c .before .before .before .before .before .before .before .before .before .outward-first .result ≡ gate (nodeRecord t (a .gate) .e1) (nodeRecord t (a .gate) .e2) (named t (nodeRecord t (a .gate) .e3) .e1) = c .before .before .before .before .before .before .before .before .before .outward-first .ensures ∙ ap₂ (λ (x y : Record). gate (x .e1) (x .e2) (y .e1)) r h in
+    let q : c .before .before .before .before .before .before .before .before .outward-second .result ≡ gate (nodeRecord t (a .gate) .e1) (nodeRecord t (a .gate) .e2) (named t (nodeRecord t (a .gate) .e3) .e2) = c .before .before .before .before .before .before .before .before .outward-second .ensures ∙ ap₂ (λ (x y : Record). gate (x .e1) (x .e2) (y .e2)) r h in
+    let last : c .before .before .before .outward-gate .result ≡ gate (2 * a .gate) (2 * (a .gate + 1)) (named t (nodeRecord t (a .gate) .e3) .e3) = c .before .before .before .outward-gate .ensures ∙ ap (λ (x : Record). gate (2 * a .gate) (2 * (a .gate + 1)) (x .e3)) h in
     two-then-put at _ _ _ (start .pre .2)
     (c .before .before .before .before .before .before .before .insert-two .ensures ∙ ap₂ (λ (x y : Record). holding (insert (a .gate) (x ∷ y ∷ []) t) (a .s .now)) p q)
     (c .before .before .put-record .ensures ∙ ap (putRecord (c .before .before .before .before .before .before .before .insert-two .last .0) (a .gate + 1)) last)
