@@ -13,8 +13,8 @@ use Rattle.majority.specs.Count3.{helpersOf, gateOperations, outputOperations, 
 use Rattle.majority.specs.declared.Record.{Record}
 use Rattle.majority.proofs.Totals.{total-next}
 use Rattle.majority.proofs.Rm3Size.{gate-most, output-most}
-use Rattle.rm3.specs.Patterns.{patternBy, patternOf}
-use Rattle.rm3.specs.declared.patterns.Pattern.{Pattern}
+use Rattle.patterns.specs.Patterns.{patternBy, patternOf}
+use Rattle.patterns.specs.declared.Pattern.{Pattern}
 
 -- a test as the number 0 or 1
 pub as-number : (t : Bool) → boolByte t ≡ (if t then 1 else 0)

@@ -1,5 +1,3 @@
-pub mod Every
-pub mod PatternTable
 pub mod Reading
 pub mod CountHelpers
 pub mod Placing

@@ -1,4 +1,3 @@
-pub mod Patterns
 pub mod Said
 pub mod Calls
 pub mod Turned

@@ -1,9 +1,9 @@
 // How many operations the RM3 table has, told from the records before one is written.
-use crate::patterns::output_helped;
-use crate::patterns::pattern_of;
 use majority::Counts;
 use majority::GATE;
 use majority::Record;
+use patterns::output_helped;
+use patterns::pattern_of;
 use tables::record_at;
 ghost use mathlib.Core.Path.{_≡_};
 ghost use Rattle.majority.specs.Count3.{gateOperations, recordOperations};

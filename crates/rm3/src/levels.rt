@@ -1,9 +1,9 @@
 // The depth of the RM3 table, without writing it.
-use crate::patterns::output_helped;
-use crate::patterns::pattern_of;
 use majority::Counts;
 use majority::Record;
 use majority::node;
+use patterns::output_helped;
+use patterns::pattern_of;
 use tables::higher;
 use tables::record_at;
 ghost use mathlib.Core.Path.{_≡_};

@@ -1,7 +1,6 @@
 // The RM3 table of a majority table: its bytes, and its depth.
 mod counting;
 mod levels;
-mod patterns;
 mod writing;
 
 use levels::depth;
@@ -19,9 +18,6 @@ ghost use Rattle.rm3.specs.Calls.{translateOf, translateBytes, depthOf};
 
 // The most bytes that an RM3 table has: 32 inputs, three operations a gate and one an output, and 32 outputs.
 pub const MOST_BYTES: usize = 8 * (MOST_INPUTS + 3 * MOST_GATES + 2 * MOST_OUTPUTS);
-
-// The kind of an operation's record.
-pub const OPERATION: u16 = 4;
 
 pub enum Translated {
     Length(usize),

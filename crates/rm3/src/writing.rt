@@ -1,16 +1,17 @@
 // The RM3 table, record by record. While it is written it has at most 3,136 records: the bounds 3,900 and 4,000 of the contracts are
 // above that, and keep every operand within 16 bits.
-use crate::OPERATION;
 use crate::Translated;
 use crate::counting::operations;
-use crate::patterns::output_helped;
-use crate::patterns::pattern_of;
 use majority::Counts;
 use majority::GATE;
 use majority::INPUT;
-use majority::OUTPUT;
 use majority::Record;
 use majority::node;
+use patterns::in_order;
+use patterns::operation;
+use patterns::output;
+use patterns::output_helped;
+use patterns::pattern_of;
 use tables::Refusal;
 use tables::put_record;
 use tables::record_at;
@@ -20,49 +21,13 @@ ghost use Prim.Native.Nat.{_+_, _*_, _≤_, _<_};
 ghost use lib.ListN.{length};
 ghost use Rattle.majority.specs.Check.{accepted, andThen};
 ghost use Rattle.majority.specs.Edge.{nodeOf};
-ghost use Rattle.majority.specs.Table.{output as outputRecord, Below};
-ghost use Rattle.majority.specs.Rm3.{operation as operationRecord};
-ghost use Rattle.majority.specs.Translate.{classOf, needsHelper, place as placeOf, inOrder, gate3, translation};
+ghost use Rattle.majority.specs.Table.{Below};
+ghost use Rattle.majority.specs.Translate.{classOf, needsHelper, place as placeOf, gate3, translation};
 ghost use Rattle.majority.proofs.Rm3Nodes.{after};
 ghost use Rattle.tables.specs.Worths.{Sound, tableIn, Fresh};
 ghost use Rattle.rm3.specs.Said.{saidTranslate};
 ghost use Rattle.rm3.specs.Calls.{rm3In, inBytes, over};
 ghost use Rattle.rm3.specs.Laid.{Places, Writes, operandsIn, Gone, LaidWhole};
-
-fn operation(x: u16, y: u16, z: u16) -> Record
-    ensures { λ r. ⌜ r ≡ operationRecord x y z ⌝ }
-{
-    Record {
-        kind: OPERATION,
-        e1: x,
-        e2: y,
-        e3: z,
-    }
-}
-
-fn output(operand: u16) -> Record
-    ensures { λ r. ⌜ r ≡ outputRecord operand ⌝ }
-{
-    Record {
-        kind: OUTPUT,
-        e1: operand,
-        e2: 0,
-        e3: 0,
-    }
-}
-
-// The operation of a gate with this middle place, whose edges have these operands.
-fn in_order(middle: u8, first: u16, second: u16, third: u16) -> Record
-    ensures { λ r. ⌜ r ≡ inOrder middle first second third ⌝ }
-{
-    if middle == 1 {
-        return operation(second, first, third);
-    }
-    if middle == 2 {
-        return operation(first, second, third);
-    }
-    operation(first, third, second)
-}
 
 // The operand of an edge, and how many records the table then has.
 pub(crate) struct Spot {

@@ -1,12 +1,12 @@
--- `patterns::output_helped` meets its contract.
+-- `output_helped` meets its contract.
 use mathlib.Core.Path.{ap, _∙_}
 use Prim.Native.Nat.{ℕ}
 use borrow.Author.Needs.{needs}
 use lib.Dec.{eqb}
 use Rattle.majority.specs.Translate.{classOf}
-use Rattle.rm3.proofs.PatternTable.{inverted-helped}
-use Rattle.rm3.proofs.patterns.output_helped.Statement.{statement}
-use Rattle.rm3.proofs.patterns.output_helped.Tie as tie
+use Rattle.patterns.proofs.PatternTable.{inverted-helped}
+use Rattle.patterns.proofs.output_helped.Statement.{statement}
+use Rattle.patterns.proofs.output_helped.Tie as tie
 
 class-requires : tie.Need-class-requires
 class-requires c κs = search needs

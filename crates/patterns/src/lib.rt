@@ -1,12 +1,18 @@
-// The 27 patterns of a gate's edges: where its middle place is, and which of its edges need helpers.
+// The records of RM3 by value: the 27 patterns of a gate's edges, and the operations.
+use majority::OUTPUT;
 use majority::Record;
 use majority::inverted;
 use majority::node;
 ghost use mathlib.Core.Path.{_≡_};
 ghost use mathlib.Core.Bool.{false};
 ghost use Prim.Native.Nat.{_<_};
-ghost use Rattle.majority.specs.Translate.{classOf, needsHelper};
-ghost use Rattle.rm3.specs.Patterns.{classNumber, patternOf};
+ghost use Rattle.majority.specs.Table.{output as outputRecord};
+ghost use Rattle.majority.specs.Rm3.{operation as operationRecord};
+ghost use Rattle.majority.specs.Translate.{classOf, needsHelper, inOrder};
+ghost use Rattle.patterns.specs.Patterns.{classNumber, patternOf};
+
+// The kind of an operation's record.
+pub const OPERATION: u16 = 4;
 
 // The classes of edges.
 const CONSTANT: usize = 0;
@@ -16,7 +22,7 @@ const PLAIN: usize = 1;
 const INVERTED: usize = 2;
 
 // The middle place, counted from 1, and whether the first, second and third edge need a helper.
-pub(crate) struct Pattern {
+pub struct Pattern {
     pub middle: u8,
     pub first: bool,
     pub second: bool,
@@ -54,7 +60,7 @@ const PATTERNS: [u8; 27] = [
     25, // inverted, inverted, inverted
 ];
 
-pub(crate) fn class(edge: u16) -> usize
+pub fn class(edge: u16) -> usize
     ensures { λ r. ⌜ (r ≡ classNumber (classOf edge)) × (r < 3) ⌝ }
 {
     if node(edge) == 0 {
@@ -67,7 +73,7 @@ pub(crate) fn class(edge: u16) -> usize
 }
 
 // The pattern of a gate.
-pub(crate) fn pattern_of(gate: Record) -> Pattern
+pub fn pattern_of(gate: Record) -> Pattern
     ensures { λ r. ⌜ r ≡ patternOf gate ⌝ }
 {
     let a = class(gate.e1);
@@ -83,8 +89,43 @@ pub(crate) fn pattern_of(gate: Record) -> Pattern
 }
 
 // An output's edge needs a helper.
-pub(crate) fn output_helped(edge: u16) -> bool
+pub fn output_helped(edge: u16) -> bool
     ensures { λ r. ⌜ r ≡ needsHelper false (classOf edge) ⌝ }
 {
     class(edge) == INVERTED
+}
+
+pub fn operation(x: u16, y: u16, z: u16) -> Record
+    ensures { λ r. ⌜ r ≡ operationRecord x y z ⌝ }
+{
+    Record {
+        kind: OPERATION,
+        e1: x,
+        e2: y,
+        e3: z,
+    }
+}
+
+pub fn output(operand: u16) -> Record
+    ensures { λ r. ⌜ r ≡ outputRecord operand ⌝ }
+{
+    Record {
+        kind: OUTPUT,
+        e1: operand,
+        e2: 0,
+        e3: 0,
+    }
+}
+
+// The operation of a gate with this middle place, whose edges have these operands.
+pub fn in_order(middle: u8, first: u16, second: u16, third: u16) -> Record
+    ensures { λ r. ⌜ r ≡ inOrder middle first second third ⌝ }
+{
+    if middle == 1 {
+        return operation(second, first, third);
+    }
+    if middle == 2 {
+        return operation(first, second, third);
+    }
+    operation(first, third, second)
 }

@@ -1,9 +1,9 @@
--- `patterns::pattern_of` meets its contract: the entry at the classes' numbers packs the pattern.
+-- `pattern_of` meets its contract: the entry at the classes' numbers packs the pattern.
 use borrow.Author.Needs.{needs}
 use Rattle.majority.specs.Translate.{classOf}
-use Rattle.rm3.proofs.PatternTable.{pattern-at}
-use Rattle.rm3.proofs.patterns.pattern_of.Statement.{statement}
-use Rattle.rm3.proofs.patterns.pattern_of.Tie as tie
+use Rattle.patterns.proofs.PatternTable.{pattern-at}
+use Rattle.patterns.proofs.pattern_of.Statement.{statement}
+use Rattle.patterns.proofs.pattern_of.Tie as tie
 
 class-requires : tie.Need-class-requires
 class-requires c κs = search needs

@@ -1,10 +1,10 @@
--- `patterns::class` meets its contract: each return is one case of the definition.
+-- `class` meets its contract: each return is one case of the definition.
 use mathlib.Core.Path.{sym, _∙_}
 use borrow.Author.Needs.{needs}
 use borrow.Author.Tests.{eq-eqb, ne-eqb}
 use Rattle.majority.specs.Translate.{classOf}
-use Rattle.rm3.proofs.patterns.class.Statement.{statement}
-use Rattle.rm3.proofs.patterns.class.Tie as tie
+use Rattle.patterns.proofs.class.Statement.{statement}
+use Rattle.patterns.proofs.class.Tie as tie
 
 node-requires : tie.Need-node-requires
 node-requires c κs = search needs

@@ -11,9 +11,9 @@ use Rattle.majority.specs.If.{if_then_else_}
 use Rattle.majority.specs.Translate.{Class, constant, plain, inverted, classOf, middle, needsHelper}
 use Rattle.majority.specs.declared.Record.{Record}
 use Rattle.majority.proofs.Logic.{both}
-use Rattle.rm3.specs.Patterns.{classNumber, patternBy, patternOf}
-use Rattle.rm3.specs.declared.patterns.Pattern.{Pattern}
-use Rattle.rm3.proofs.Every.{every-at}
+use Rattle.patterns.specs.Patterns.{classNumber, patternBy, patternOf}
+use Rattle.patterns.specs.declared.Pattern.{Pattern}
+use Rattle.patterns.proofs.Every.{every-at}
 
 -- the table in the code
 abbrev pub patterns : List ℕ

@@ -1,9 +1,9 @@
--- `writing::in_order` meets its contract: each return is one middle place.
+-- `in_order` meets its contract: each return is one middle place.
 use mathlib.Core.Path.{_∙_}
 use borrow.Author.Needs.{needs}
 use borrow.Author.Tests.{eq-eqb, ne-eqb}
-use Rattle.rm3.proofs.writing.in_order.Statement.{statement}
-use Rattle.rm3.proofs.writing.in_order.Tie as tie
+use Rattle.patterns.proofs.in_order.Statement.{statement}
+use Rattle.patterns.proofs.in_order.Tie as tie
 
 operation-requires : tie.Need-operation-requires
 operation-requires c κs = search needs

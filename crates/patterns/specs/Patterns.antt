@@ -3,7 +3,7 @@ use Prim.Native.Nat.{ℕ}
 use lib.Dec.{eqb}
 use Rattle.majority.specs.Translate.{Class, classOf, byClass, middle, needsHelper}
 use Rattle.majority.specs.declared.Record.{Record}
-use Rattle.rm3.specs.declared.patterns.Pattern.{Pattern}
+use Rattle.patterns.specs.declared.Pattern.{Pattern}
 
 -- the number of a class: constant 0, plain 1, inverted 2
 abbrev pub classNumber : Class → ℕ

@@ -1,0 +1,2 @@
+mod Every
+pub mod PatternTable
