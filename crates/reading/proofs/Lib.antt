@@ -1,2 +1,4 @@
 pub mod Asks
 pub mod Makes
+pub mod Opens
+pub mod Parts

@@ -10,7 +10,7 @@ ghost use mathlib.Core.Path.{_≡_};
 ghost use lib.ListN.{take};
 ghost use Rattle.tables.specs.Said.{saidCheck, saidValue, saidReport};
 ghost use Rattle.tables.specs.Claimed.{claimedCheck, claimedEvaluate, claimedReport};
-ghost use Rattle.reading.specs.Held.{claim, claimed, foundIn, partIn, countsIn};
+ghost use Rattle.reading.specs.Held.{claim, claimed, foundIn, partIn, countsIn, readCheck, readEvaluate, readReport};
 
 // Nothing of a reading is trusted: each question checks the records and the counts again.
 pub struct Reading<'a> {
@@ -174,4 +174,23 @@ pub fn reported_as(records: &[u8], inputs: usize, gates: usize, outputs: usize) 
     ensures { λ r. ⌜ saidReport r ≡ claimedReport (now (records .entry)) (claim inputs gates outputs) ⌝ }
 {
     report(hold(records, inputs, gates, outputs))
+}
+
+// The same of the table that the first used bytes of s hold, asked of its reading: a table that the check refuses is refused with 3.
+pub fn checked(s: &[u8], used: usize) -> Checked
+    ensures { λ r. ⌜ saidCheck r ≡ readCheck (now (s .entry)) used ⌝ }
+{
+    check(read(s, used))
+}
+
+pub fn evaluated(s: &[u8], used: usize, assignment: u32) -> Valued
+    ensures { λ r. ⌜ saidValue r ≡ readEvaluate (now (s .entry)) used assignment ⌝ }
+{
+    evaluate(read(s, used), assignment)
+}
+
+pub fn reported(s: &[u8], used: usize) -> Reported
+    ensures { λ r. ⌜ saidReport r ≡ readReport (now (s .entry)) used ⌝ }
+{
+    report(read(s, used))
 }

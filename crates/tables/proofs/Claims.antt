@@ -90,6 +90,10 @@ module _ (rs : List Record) where
       let w = counted-accepted claim rs found c e in
       (rw (w .0) at e, w .0 ∙ w .1)
 
+  then-claimed : (c : Counts) (kinds : Reply Counts) → andThen kinds (λ d. checkCounted d rs d) ≡ accepted c → andThen kinds (checkCounted c rs) ≡ accepted c
+  then-claimed c (refused k i) e = e
+  then-claimed c (accepted found) e = ap (λ (d : Counts). checkCounted d rs found) (sym (counted-accepted found rs found c e .1)) ∙ e
+
 module _ (xs : List ℕ) where
   abbrev held : List Record
   held = tableOf xs (length xs / 8)
@@ -130,6 +134,13 @@ module _ (xs : List ℕ) where
         let w = passed (not (eqb (length xs % 8) 0)) 1 0 _ c e in
         let v = accepted-then held claim c (checkKinds held) (w .1) in
         (check-counted ∙ rw (w .0) (v .0), v .1)
+
+    -- and what that accepts is accepted where its counts are claimed
+    pub accepted-claimed : checkOf xs (length xs) ≡ accepted claim → claimedCheck xs claim ≡ accepted claim
+    unfolding claimedCheck checkClaimed
+    accepted-claimed e =
+        let w = passed (not (eqb (length xs % 8) 0)) 1 0 _ claim (sym check-counted ∙ e) in
+        rw (w .0) (then-claimed held claim (checkKinds held) (w .1))
 
     -- what a call that checks the claim first knows of an accepted table, and what it replies
     pub claimed-sound : (c : Counts) → claimedCheck xs claim ≡ accepted c → Sound xs c

@@ -1,10 +1,12 @@
 -- The records that bytes hold, one by one.
-use Prim.Native.Nat.{ℕ, zero, suc, _+_, _≤_, _<_}
+use Prim.Native.Nat.{ℕ, zero, suc, _+_, _*_, _≤_, _<_}
 use mathlib.Core.Path.{_≡_, refl, ap}
 use mathlib.Core.List.{List}
 use native.Mathlib.Omega.{arith}
-use lib.ListN.{length, List·getD-eq-default}
+use lib.ListN.{length, take, List·getD-eq-default}
+use lib.Seq.{getD-take}
 use Rattle.majority.specs.Table.{blank, recordAt}
+use Rattle.tables.specs.Field.{fieldAt}
 use Rattle.tables.specs.Bytes.{recordIn, decode, tableOf}
 
 length-decode : (xs : List ℕ) (k i : ℕ) → length (decode xs i k) ≡ k
@@ -17,6 +19,21 @@ unfolding decode
 decode-at xs zero i j h = absurd (omega arith)
 decode-at xs (suc k) i zero h = let e : i + 0 ≡ i = omega arith in rw e
 decode-at xs (suc k) i (suc j) h = let e : i + suc j ≡ suc i + j = omega arith in rw e (decode-at xs k (suc i) j (omega arith))
+
+-- the first bytes hold the first records
+module _ (xs : List ℕ) (used : ℕ) where
+  field-take : (k : ℕ) → 2 * k + 1 < used → fieldAt (take used xs) k ≡ fieldAt xs k
+  unfolding fieldAt
+  field-take k h = rw (getD-take used xs (2 * k) 0 (omega arith), getD-take used xs (2 * k + 1) 0 h)
+
+  decode-take : (k i : ℕ) → 8 * (i + k) ≤ used → decode (take used xs) i k ≡ decode xs i k
+  unfolding decode
+  decode-take zero i h = refl
+  decode-take (suc k) i h =
+      rw (field-take (4 * i) (omega arith), field-take (4 * i + 1) (omega arith), field-take (4 * i + 2) (omega arith), field-take (4 * i + 3) (omega arith), decode-take k (suc i) (omega arith))
+
+  pub table-take : (n : ℕ) → 8 * n ≤ used → tableOf (take used xs) n ≡ tableOf xs n
+  table-take n h = decode-take n 0 (omega arith)
 
 module _ (xs : List ℕ) (n : ℕ) where
   pub length-table : length (tableOf xs n) ≡ n
