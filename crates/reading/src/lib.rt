@@ -20,18 +20,21 @@ pub struct Reading<'a> {
     outputs: usize,
 }
 
+fn counts(inputs: usize, gates: usize, outputs: usize) -> Counts
+    ensures { λ r. ⌜ r ≡ claim inputs gates outputs ⌝ }
+{
+    Counts {
+        inputs,
+        gates,
+        outputs,
+    }
+}
+
 // The questions on the parts of a reading.
 fn check_parts(records: &[u8], inputs: usize, gates: usize, outputs: usize) -> Checked
     ensures { λ r. ⌜ saidCheck r ≡ claimedCheck (now (records .entry)) (claim inputs gates outputs) ⌝ }
 {
-    check_as(
-        records,
-        Counts {
-            inputs,
-            gates,
-            outputs,
-        },
-    )
+    check_as(records, counts(inputs, gates, outputs))
 }
 
 fn evaluate_parts(
@@ -43,28 +46,13 @@ fn evaluate_parts(
 ) -> Valued
     ensures { λ r. ⌜ saidValue r ≡ claimedEvaluate (now (records .entry)) (claim inputs gates outputs) assignment ⌝ }
 {
-    evaluate_as(
-        records,
-        Counts {
-            inputs,
-            gates,
-            outputs,
-        },
-        assignment,
-    )
+    evaluate_as(records, counts(inputs, gates, outputs), assignment)
 }
 
 fn report_parts(records: &[u8], inputs: usize, gates: usize, outputs: usize) -> Reported
     ensures { λ r. ⌜ saidReport r ≡ claimedReport (now (records .entry)) (claim inputs gates outputs) ⌝ }
 {
-    report_as(
-        records,
-        Counts {
-            inputs,
-            gates,
-            outputs,
-        },
-    )
+    report_as(records, counts(inputs, gates, outputs))
 }
 
 // The used length and counts of a table, all zero where there is none.
