@@ -60,6 +60,14 @@ struct pulpgarnet_written pulpgarnet_translate(const uint8_t *table, size_t leng
 /* The depth of the RM3 table. Writes nothing. Refusals 1 to 5. */
 struct pulpgarnet_deep pulpgarnet_rm3_depth(const uint8_t *table, size_t length, size_t used);
 
+/* The same as pulpgarnet_evaluate and pulpgarnet_report through a reading: all `length` bytes are the table, and its counts are
+   those given. Other counts are refused with 3, after 1 and 2 and before 4 and 5. Nothing is trusted: each call checks again.
+   Writes nothing. Refusals 1 to 6, and 1 to 5. */
+struct pulpgarnet_valued pulpgarnet_reading_evaluate(const uint8_t *records, size_t length,
+                                                     size_t inputs, size_t gates, size_t outputs, uint32_t assignment);
+struct pulpgarnet_reported pulpgarnet_reading_report(const uint8_t *records, size_t length,
+                                                     size_t inputs, size_t gates, size_t outputs);
+
 #ifdef __cplusplus
 }
 #endif

@@ -65,20 +65,28 @@ static void check(size_t used)
     put_number(r.outputs);
 }
 
-static void evaluate(size_t used)
+static void put_valued(struct pulpgarnet_valued r)
 {
-    uint32_t assignment = get_number(4);
-    struct pulpgarnet_valued r = pulpgarnet_evaluate(table.bytes, table.length, used, assignment);
     put_refusal(r.refusal, r.record);
     put_number(r.outputs);
 }
 
-static void report(size_t used)
+static void evaluate(size_t used)
 {
-    struct pulpgarnet_reported r = pulpgarnet_report(table.bytes, table.length, used);
+    uint32_t assignment = get_number(4);
+    put_valued(pulpgarnet_evaluate(table.bytes, table.length, used, assignment));
+}
+
+static void put_reported(struct pulpgarnet_reported r)
+{
     put_refusal(r.refusal, r.record);
     put_number(r.size);
     put_number(r.depth);
+}
+
+static void report(size_t used)
+{
+    put_reported(pulpgarnet_report(table.bytes, table.length, used));
 }
 
 static void step(size_t used)
@@ -109,16 +117,38 @@ static void translate(size_t used)
     put_part(&out);
 }
 
+/* An operation on a table: its used length and the table come first. */
+static void on_table(void (*call)(size_t))
+{
+    size_t used = get_number(4);
+    get_part(&table);
+    call(used);
+}
+
+/* An operation through a reading: its counts and the records come first. */
+static void on_reading(int evaluated)
+{
+    size_t inputs = get_number(4), gates = get_number(4), outputs = get_number(4);
+    get_part(&table);
+    if (evaluated) {
+        uint32_t assignment = get_number(4);
+        put_valued(pulpgarnet_reading_evaluate(table.bytes, table.length, inputs, gates, outputs, assignment));
+    } else {
+        put_reported(pulpgarnet_reading_report(table.bytes, table.length, inputs, gates, outputs));
+    }
+}
+
 int main(void)
 {
     static void (*const calls[])(size_t) = {check, evaluate, report, step, run, translate};
     uint8_t operation;
     while (fread(&operation, 1, 1, stdin) == 1) {
-        if (operation < 1 || operation > sizeof calls / sizeof *calls)
+        if (operation >= 1 && operation <= sizeof calls / sizeof *calls)
+            on_table(calls[operation - 1]);
+        else if (operation == 7 || operation == 8)
+            on_reading(operation == 7);
+        else
             end("there is no such operation");
-        size_t used = get_number(4);
-        get_part(&table);
-        calls[operation - 1](used);
         fflush(stdout);
     }
     return 0;

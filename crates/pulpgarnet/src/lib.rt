@@ -4,7 +4,10 @@ use tables::refusal_number;
 use tables::refusal_record;
 ghost use mathlib.Core.Path.{_≡_};
 ghost use lib.ListN.{length};
+ghost use Rattle.tables.specs.Said.{saidValue, saidReport};
 ghost use Rattle.tables.specs.Calls.{checkOf, evaluateOf, reportOf};
+ghost use Rattle.tables.specs.Claimed.{claimedEvaluate, claimedReport};
+ghost use Rattle.reading.specs.Held.{claim};
 ghost use Rattle.rewriting.specs.Calls.{stepOf, stepBytes};
 ghost use Rattle.rewriting.specs.Script.{scriptRun};
 ghost use Rattle.rm3.specs.Calls.{translateOf, translateBytes, depthOf};
@@ -87,12 +90,10 @@ pub extern "C" fn pulpgarnet_check(table: &[u8], used: usize) -> Checked
     }
 }
 
-// The outputs' number under an assignment.
-#[no_mangle]
-pub extern "C" fn pulpgarnet_evaluate(table: &[u8], used: usize, assignment: u32) -> Valued
-    ensures { λ r. ⌜ r ≡ valuedReply (evaluateOf (now (table .entry)) used assignment) ⌝ }
+fn value_reply(answer: tables::Valued) -> Valued
+    ensures { λ r. ⌜ r ≡ valuedReply (saidValue answer) ⌝ }
 {
-    match tables::evaluate(table, used, assignment) {
+    match answer {
         tables::Valued::Outputs(outputs) => Valued {
             refusal: 0,
             at: 0,
@@ -106,12 +107,18 @@ pub extern "C" fn pulpgarnet_evaluate(table: &[u8], used: usize, assignment: u32
     }
 }
 
-// Size and depth.
+// The outputs' number under an assignment.
 #[no_mangle]
-pub extern "C" fn pulpgarnet_report(table: &[u8], used: usize) -> Reported
-    ensures { λ r. ⌜ r ≡ reportedReply (reportOf (now (table .entry)) used) ⌝ }
+pub extern "C" fn pulpgarnet_evaluate(table: &[u8], used: usize, assignment: u32) -> Valued
+    ensures { λ r. ⌜ r ≡ valuedReply (evaluateOf (now (table .entry)) used assignment) ⌝ }
 {
-    match tables::report(table, used) {
+    value_reply(tables::evaluate(table, used, assignment))
+}
+
+fn report_reply(answer: tables::Reported) -> Reported
+    ensures { λ r. ⌜ r ≡ reportedReply (saidReport answer) ⌝ }
+{
+    match answer {
         tables::Reported::Whole(size) => Reported {
             refusal: 0,
             at: 0,
@@ -125,6 +132,14 @@ pub extern "C" fn pulpgarnet_report(table: &[u8], used: usize) -> Reported
             depth: 0,
         },
     }
+}
+
+// Size and depth.
+#[no_mangle]
+pub extern "C" fn pulpgarnet_report(table: &[u8], used: usize) -> Reported
+    ensures { λ r. ⌜ r ≡ reportedReply (reportOf (now (table .entry)) used) ⌝ }
+{
+    report_reply(tables::report(table, used))
 }
 
 // One step: the new used length.
@@ -215,4 +230,31 @@ pub extern "C" fn pulpgarnet_rm3_depth(table: &[u8], used: usize) -> Deep
             depth: 0,
         },
     }
+}
+
+// The outputs' number under an assignment, through a reading of the records with these counts.
+#[no_mangle]
+pub extern "C" fn pulpgarnet_reading_evaluate(
+    records: &[u8],
+    inputs: usize,
+    gates: usize,
+    outputs: usize,
+    assignment: u32,
+) -> Valued
+    ensures { λ r. ⌜ r ≡ valuedReply (claimedEvaluate (now (records .entry)) (claim inputs gates outputs) assignment) ⌝ }
+{
+    value_reply(reading::evaluated_as(records, inputs, gates, outputs, assignment))
+}
+
+// Size and depth, through a reading.
+#[no_mangle]
+pub extern "C" fn pulpgarnet_reading_report(
+    records: &[u8],
+    inputs: usize,
+    gates: usize,
+    outputs: usize,
+) -> Reported
+    ensures { λ r. ⌜ r ≡ reportedReply (claimedReport (now (records .entry)) (claim inputs gates outputs)) ⌝ }
+{
+    report_reply(reading::reported_as(records, inputs, gates, outputs))
 }
