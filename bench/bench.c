@@ -1,0 +1,390 @@
+/*
+ * Measures the library against the plain baseline, in turn on the same inputs, and stops where they do not answer the same.
+ *
+ *   bench times [MARK]   two tables: the times of both at three sizes, and how our time grows as the table doubles
+ *   bench traced         asks each call once on each side between two lines, for whoever counts the instructions between them
+ *
+ * A step is asked of the gate in the middle, which has the rule's form; where a rule inserts, the largest table has 1,022 gates.
+ */
+#include "baseline.h"
+
+enum { RECORD = 8, MOST_GATES = 1024, MOST_TABLE = RECORD * (32 + MOST_GATES + 32), MOST_RM3 = 25344 };
+enum { STEPS = 64, SPARE = RECORD * 2 * STEPS, MOST_BUFFER = MOST_TABLE + SPARE };
+enum { ROUNDS = 201, MOST_COPIES = 64, COPIED = 32768 };
+
+struct timespec { long seconds, nanoseconds; };
+
+int clock_gettime(int clock, struct timespec *time);
+int printf(const char *format, ...);
+void exit(int status);
+long write(int to, const void *bytes, size_t n);
+size_t strlen(const char *text);
+int strcmp(const char *one, const char *other);
+void *memcpy(void *to, const void *from, size_t n);
+void *memset(void *to, int byte, size_t n);
+int memcmp(const void *one, const void *other, size_t n);
+void qsort(void *base, size_t count, size_t size, int (*order)(const void *, const void *));
+
+/* The calls of one side. */
+struct side {
+    const char *name;
+    struct pulpgarnet_checked (*check)(const uint8_t *, size_t, size_t);
+    struct pulpgarnet_valued (*evaluate)(const uint8_t *, size_t, size_t, uint32_t);
+    struct pulpgarnet_reported (*report)(const uint8_t *, size_t, size_t);
+    struct pulpgarnet_stepped (*step)(uint8_t *, size_t, size_t, uint16_t, uint16_t, uint16_t, uint16_t);
+    struct pulpgarnet_ran (*script)(uint8_t *, size_t, size_t, const uint8_t *, size_t);
+    struct pulpgarnet_written (*translate)(const uint8_t *, size_t, size_t, uint8_t *, size_t);
+};
+
+static const struct side SIDES[2] = {
+    { "ours", pulpgarnet_check, pulpgarnet_evaluate, pulpgarnet_report, pulpgarnet_step, pulpgarnet_script,
+      pulpgarnet_translate },
+    { "theirs", plain_check, plain_evaluate, plain_report, plain_step, plain_script, plain_translate },
+};
+
+enum call { NOTHING, CHECK, EVALUATE, REPORT, STEP, SCRIPT, TRANSLATE };
+
+struct row { const char *name; enum call call; uint16_t rule; };
+
+static const struct row ROWS[] = {
+    { "check", CHECK, 0 },
+    { "evaluate", EVALUATE, 0 },
+    { "report", REPORT, 0 },
+    { "step 1 exchange", STEP, 1 },
+    { "step 2 majority", STEP, 2 },
+    { "step 3 associativity", STEP, 3 },
+    { "step 4 outward", STEP, 4 },
+    { "step 5 inward", STEP, 5 },
+    { "step 6 inversion", STEP, 6 },
+    { "step 7 share", STEP, 7 },
+    { "step 8 sweep", STEP, 8 },
+    { "script of 64 steps", SCRIPT, 0 },
+    { "translate", TRANSLATE, 0 },
+};
+
+enum { COUNT = sizeof ROWS / sizeof ROWS[0] };
+
+/* What a row asks at one size: the table in its buffer, and what goes in beside it. */
+struct input {
+    enum call call;
+    unsigned inputs, gates, outputs;
+    size_t used, length;
+    uint8_t table[MOST_BUFFER];
+    uint32_t assignment;
+    uint16_t rule, gate, a;
+    uint8_t steps[RECORD * STEPS];
+};
+
+struct reply { uint64_t numbers[5]; };
+
+static uint8_t out[MOST_RM3];
+
+__attribute__((noinline)) static void ask(const struct side *side, const struct input *in, uint8_t *table,
+                                          struct reply *reply)
+{
+    uint64_t *n = reply->numbers;
+    switch (in->call) {
+    case NOTHING:
+        break;
+    case CHECK: {
+        struct pulpgarnet_checked r = side->check(table, in->length, in->used);
+        n[0] = r.refusal, n[1] = r.record, n[2] = r.inputs, n[3] = r.gates, n[4] = r.outputs;
+        break;
+    }
+    case EVALUATE: {
+        struct pulpgarnet_valued r = side->evaluate(table, in->length, in->used, in->assignment);
+        n[0] = r.refusal, n[1] = r.record, n[2] = r.outputs;
+        break;
+    }
+    case REPORT: {
+        struct pulpgarnet_reported r = side->report(table, in->length, in->used);
+        n[0] = r.refusal, n[1] = r.record, n[2] = r.size, n[3] = r.depth;
+        break;
+    }
+    case STEP: {
+        struct pulpgarnet_stepped r = side->step(table, in->length, in->used, in->rule, in->gate, in->a, 0);
+        n[0] = r.refusal, n[1] = r.record, n[2] = r.used;
+        break;
+    }
+    case SCRIPT: {
+        struct pulpgarnet_ran r = side->script(table, in->length, in->used, in->steps, sizeof in->steps);
+        n[0] = r.refusal, n[1] = r.record, n[2] = r.taken, n[3] = r.used;
+        break;
+    }
+    case TRANSLATE: {
+        struct pulpgarnet_written r = side->translate(table, in->length, in->used, out, sizeof out);
+        n[0] = r.refusal, n[1] = r.record, n[2] = r.length;
+        break;
+    }
+    }
+}
+
+/* The inputs: tables of a fixed seed. */
+
+static uint64_t seed;
+
+static unsigned below(unsigned bound)
+{
+    seed ^= seed << 13;
+    seed ^= seed >> 7;
+    seed ^= seed << 17;
+    return (unsigned)(seed >> 32) % bound;
+}
+
+static void put_record(uint8_t *table, unsigned i, unsigned kind, unsigned e1, unsigned e2, unsigned e3)
+{
+    unsigned fields[4] = { kind, e1, e2, e3 };
+    for (unsigned k = 0; k < 4; k++) {
+        table[RECORD * i + 2 * k] = (uint8_t)fields[k];
+        table[RECORD * i + 2 * k + 1] = (uint8_t)(fields[k] >> 8);
+    }
+}
+
+/* Edge k of a node. */
+static unsigned edge_of(const uint8_t *table, unsigned node, unsigned k)
+{
+    const uint8_t *p = table + RECORD * (node - 1) + 2 * k;
+    return p[0] | (unsigned)p[1] << 8;
+}
+
+/* An edge of a node: one in eight is constant, the others name one of the 64 nodes before it, and one in four is inverted. */
+static unsigned some_edge(unsigned node)
+{
+    if (node < 2 || below(8) == 0)
+        return below(2);
+    unsigned far = node - 1 < 64 ? node - 1 : 64;
+    return 2 * (node - 1 - below(far)) + (below(4) == 0);
+}
+
+/* Gives a gate the form of a rule, by the two gates before it where the rule needs others. */
+static void plant(uint8_t *table, unsigned node, unsigned rule)
+{
+    unsigned x = some_edge(node), y = some_edge(node), z = some_edge(node), h = node - 1, i = node - 1;
+    switch (rule) {
+    case 2:
+        y = x;
+        break;
+    case 3:
+        y = edge_of(table, h, 2);
+        z = 2 * h;
+        break;
+    case 4:
+        z = 2 * h;
+        break;
+    case 5:
+        put_record(table, h - 1, 2, edge_of(table, h - 1, 1), edge_of(table, h - 1, 2), edge_of(table, h, 3));
+        x = 2 * h;
+        y = 2 * (h - 1);
+        break;
+    case 7:
+        x = edge_of(table, h, 1), y = edge_of(table, h, 2), z = edge_of(table, h, 3);
+        break;
+    }
+    put_record(table, i, 2, x, y, z);
+}
+
+/* Steps that are accepted one after another: any rule, at a gate from a random one on that has its form. */
+static void choose_steps(struct input *in)
+{
+    static uint8_t table[MOST_BUFFER];
+    memcpy(table, in->table, sizeof table);
+    size_t used = in->used;
+    for (unsigned k = 0; k < STEPS; k++) {
+        unsigned rule = 1 + below(8), gates = (unsigned)(used / RECORD) - in->inputs - in->outputs;
+        if (gates == 0)
+            rule = 8;
+        unsigned from = gates == 0 ? 0 : below(gates);
+        for (unsigned tried = 0;; tried++) {
+            if (tried == gates)
+                rule = 6;
+            unsigned gate = rule == 8 ? 0 : in->inputs + 1 + (from + tried) % gates;
+            unsigned a = rule == 1 ? 1 + below(2) : rule == 7 ? gate - 1 : 0;
+            struct pulpgarnet_stepped r =
+                plain_step(table, in->length, used, (uint16_t)rule, (uint16_t)gate, (uint16_t)a, 0);
+            if (r.refusal == 0) {
+                put_record(in->steps, k, rule, gate, a, 0);
+                used = r.used;
+                break;
+            }
+        }
+    }
+}
+
+static int inserts(unsigned rule) { return 3 <= rule && rule <= 5; }
+
+static void make_input(struct input *in, const struct row *row, unsigned gates)
+{
+    memset(in, 0, sizeof *in);
+    seed = 88172645463325252u;
+    in->call = row->call;
+    in->rule = row->rule;
+    in->gates = inserts(row->rule) && gates > MOST_GATES - 2 ? MOST_GATES - 2 : gates;
+    in->outputs = (in->gates + 31) / 32 < 2 ? 2 : (in->gates + 31) / 32;
+    in->inputs = in->outputs < 4 ? 4 : in->outputs;
+    unsigned nodes = in->inputs + in->gates;
+    for (unsigned node = 1; node <= nodes; node++) {
+        static const unsigned FORMS[16] = { 2, 3, 5, 7 };
+        unsigned form = FORMS[below(16)];
+        if (node <= in->inputs)
+            put_record(in->table, node - 1, 1, 0, 0, 0);
+        else
+            plant(in->table, node, node > in->inputs + 2 ? form : 0);
+    }
+    for (unsigned j = 0; j < in->outputs; j++)
+        put_record(in->table, nodes + j, 3, some_edge(nodes + 1), 0, 0);
+    in->used = RECORD * (nodes + in->outputs);
+    in->length = in->used + SPARE;
+    in->assignment = in->inputs == 32 ? (uint32_t)seed : (uint32_t)seed & ((1u << in->inputs) - 1);
+    if (row->call == STEP && row->rule != 8) {
+        unsigned middle = in->inputs + in->gates / 2 + 1;
+        plant(in->table, middle, row->rule);
+        in->gate = (uint16_t)middle;
+        in->a = row->rule == 1 ? 1 : row->rule == 7 ? (uint16_t)(middle - 1) : 0;
+    }
+    if (row->call == SCRIPT)
+        choose_steps(in);
+}
+
+/* Both sides accept and answer the same, reply and bytes. */
+static void compare(const struct row *row, const struct input *in)
+{
+    static uint8_t tables[2][MOST_BUFFER], outs[2][MOST_RM3];
+    struct reply replies[2];
+    memset(replies, 0, sizeof replies);
+    for (int s = 0; s < 2; s++) {
+        memcpy(tables[s], in->table, MOST_BUFFER);
+        memset(out, 0xa5, sizeof out);
+        ask(&SIDES[s], in, tables[s], &replies[s]);
+        memcpy(outs[s], out, sizeof out);
+    }
+    const char *wrong = replies[0].numbers[0] != 0 || replies[1].numbers[0] != 0 ? "is refused"
+        : memcmp(&replies[0], &replies[1], sizeof replies[0]) != 0 ? "has two replies"
+        : memcmp(tables[0], tables[1], MOST_BUFFER) != 0 || memcmp(outs[0], outs[1], sizeof out) != 0 ? "leaves two results"
+        : 0;
+    if (wrong) {
+        printf("bench: %s at %u gates %s\n", row->name, in->gates, wrong);
+        exit(1);
+    }
+}
+
+/* The times. */
+
+static uint64_t now(void)
+{
+    struct timespec t;
+    clock_gettime(1, &t);
+    return (uint64_t)t.seconds * 1000000000u + (uint64_t)t.nanoseconds;
+}
+
+static unsigned copies_of(const struct input *in)
+{
+    unsigned copies = COPIED / (unsigned)in->used;
+    return copies > MOST_COPIES ? MOST_COPIES : copies;
+}
+
+/* How long one side takes for the call on each of the copies, which are made anew before the clock starts. */
+static uint64_t timed(const struct side *side, const struct input *in)
+{
+    static uint8_t pool[MOST_COPIES * MOST_BUFFER];
+    unsigned copies = copies_of(in);
+    struct reply reply;
+    for (unsigned k = 0; k < copies; k++)
+        memcpy(pool + k * in->length, in->table, in->length);
+    uint64_t began = now();
+    for (unsigned k = 0; k < copies; k++)
+        ask(side, in, pool + k * in->length, &reply);
+    return now() - began;
+}
+
+static int by_size(const void *one, const void *other)
+{
+    uint64_t a = *(const uint64_t *)one, b = *(const uint64_t *)other;
+    return (a > b) - (a < b);
+}
+
+/* The medians of many rounds, in nanoseconds a call; the sides take turns in going first. */
+static void measure(const struct input *in, double *times)
+{
+    static uint64_t rounds[2][ROUNDS];
+    for (unsigned r = 0; r < ROUNDS; r++)
+        for (unsigned turn = 0; turn < 2; turn++) {
+            unsigned s = (r + turn) % 2;
+            rounds[s][r] = timed(&SIDES[s], in);
+        }
+    for (unsigned s = 0; s < 2; s++) {
+        qsort(rounds[s], ROUNDS, sizeof rounds[s][0], by_size);
+        times[s] = (double)rounds[s][ROUNDS / 2] / copies_of(in);
+    }
+}
+
+static void times(const char *mark)
+{
+    static const unsigned SIZES[] = { 16, 128, 256, 512, 1024 };
+    static double results[COUNT][5][2];
+    static unsigned gates[COUNT][5];
+    static struct input in;
+    for (unsigned i = 0; i < COUNT; i++)
+        for (unsigned k = 0; k < 5; k++) {
+            make_input(&in, &ROWS[i], SIZES[k]);
+            compare(&ROWS[i], &in);
+            measure(&in, results[i][k]);
+            gates[i][k] = in.gates;
+        }
+    printf("%-22s %6s %11s %11s %7s%s\n", "call", "gates", "ours, ns", "theirs, ns", "ratio", mark);
+    for (unsigned i = 0; i < COUNT; i++)
+        for (unsigned k = 0; k < 5; k += k == 1 ? 1 : 2) {
+            if (k == 1)
+                continue;
+            double ours = results[i][k][0], theirs = results[i][k][1];
+            printf("%-22s %6u %11.0f %11.0f %7.2f%s\n", ROWS[i].name, gates[i][k], ours, theirs, ours / theirs, mark);
+        }
+    printf("\n%-22s %11s %8s %8s %8s%s\n", "growth of our time", "128, ns", "to 256", "to 512", "to 1024", mark);
+    for (unsigned i = 0; i < COUNT; i++) {
+        printf("%-22s %11.0f", ROWS[i].name, results[i][1][0]);
+        for (unsigned k = 2; k < 5; k++)
+            printf(" %8.2f", results[i][k][0] / results[i][k - 1][0]);
+        printf("%s\n", mark);
+    }
+}
+
+/* The trace. */
+
+static void say(const char *text) { write(1, text, strlen(text)); }
+
+static void trace(const char *name, const char *size, const struct input *in)
+{
+    static uint8_t table[MOST_BUFFER];
+    for (unsigned s = 0; s < 2; s++) {
+        struct reply reply;
+        memcpy(table, in->table, in->length);
+        say(name);
+        say(size);
+        say(SIDES[s].name);
+        say("\nbegin\n");
+        ask(&SIDES[s], in, table, &reply);
+        say("end\n");
+    }
+}
+
+static void traced(void)
+{
+    static struct input in;
+    trace("row nothing", "/16/", &in);
+    for (unsigned i = 0; i < COUNT; i++) {
+        make_input(&in, &ROWS[i], 16);
+        trace(ROWS[i].name, "/16/", &in);
+        make_input(&in, &ROWS[i], 256);
+        trace(ROWS[i].name, "/256/", &in);
+        make_input(&in, &ROWS[i], 1024);
+        trace(ROWS[i].name, in.gates == 1024 ? "/1024/" : "/1022/", &in);
+    }
+}
+
+int main(int count, char **words)
+{
+    if (count > 1 && strcmp(words[1], "traced") == 0)
+        traced();
+    else
+        times(count > 2 ? words[2] : "");
+    return 0;
+}
