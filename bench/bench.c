@@ -1,11 +1,15 @@
 /*
  * Measures the library against the plain baseline, in turn on the same inputs, and stops where they do not answer the same.
  *
- *   bench times [MARK]   two tables: the times of both at three sizes, and how our time grows as the table doubles
- *   bench traced         asks each call once on each side between two lines, for whoever counts the instructions between them
+ *   bench [MARK]         prints the times of both at three sizes, and how our time grows as the table doubles
+ *   bench inputs         writes the inputs of all rows but the script, each twice: what `bench traced` reads
+ *   bench traced         asks ours and theirs in turn, each call between two lines, so that a trace shows its instructions
  *
  * A step is asked of the gate in the middle, which has the rule's form; where a rule inserts, the largest table has 1,022 gates.
  */
+#include <stdio.h>
+#include <stdlib.h>
+
 #include "baseline.h"
 
 enum { RECORD = 8, MOST_GATES = 1024, MOST_TABLE = RECORD * (32 + MOST_GATES + 32), MOST_RM3 = 25344 };
@@ -15,10 +19,9 @@ enum { ROUNDS = 201, MOST_COPIES = 64, COPIED = 32768 };
 struct timespec { long seconds, nanoseconds; };
 
 int clock_gettime(int clock, struct timespec *time);
-int printf(const char *format, ...);
-void exit(int status);
+int snprintf(char *text, size_t room, const char *format, ...);
+long read(int from, void *bytes, size_t n);
 long write(int to, const void *bytes, size_t n);
-size_t strlen(const char *text);
 int strcmp(const char *one, const char *other);
 void *memcpy(void *to, const void *from, size_t n);
 void *memset(void *to, int byte, size_t n);
@@ -27,7 +30,6 @@ void qsort(void *base, size_t count, size_t size, int (*order)(const void *, con
 
 /* The calls of one side. */
 struct side {
-    const char *name;
     struct pulpgarnet_checked (*check)(const uint8_t *, size_t, size_t);
     struct pulpgarnet_valued (*evaluate)(const uint8_t *, size_t, size_t, uint32_t);
     struct pulpgarnet_reported (*report)(const uint8_t *, size_t, size_t);
@@ -37,9 +39,8 @@ struct side {
 };
 
 static const struct side SIDES[2] = {
-    { "ours", pulpgarnet_check, pulpgarnet_evaluate, pulpgarnet_report, pulpgarnet_step, pulpgarnet_script,
-      pulpgarnet_translate },
-    { "theirs", plain_check, plain_evaluate, plain_report, plain_step, plain_script, plain_translate },
+    { pulpgarnet_check, pulpgarnet_evaluate, pulpgarnet_report, pulpgarnet_step, pulpgarnet_script, pulpgarnet_translate },
+    { plain_check, plain_evaluate, plain_report, plain_step, plain_script, plain_translate },
 };
 
 enum call { NOTHING, CHECK, EVALUATE, REPORT, STEP, SCRIPT, TRANSLATE };
@@ -66,6 +67,7 @@ enum { COUNT = sizeof ROWS / sizeof ROWS[0] };
 
 /* What a row asks at one size: the table in its buffer, and what goes in beside it. */
 struct input {
+    char label[40];
     enum call call;
     unsigned inputs, gates, outputs;
     size_t used, length;
@@ -243,10 +245,11 @@ static void make_input(struct input *in, const struct row *row, unsigned gates)
     }
     if (row->call == SCRIPT)
         choose_steps(in);
+    snprintf(in->label, sizeof in->label, "%-22s %6u", row->name, in->gates);
 }
 
 /* Both sides accept and answer the same, reply and bytes. */
-static void compare(const struct row *row, const struct input *in)
+static void compare(const struct input *in)
 {
     static uint8_t tables[2][MOST_BUFFER], outs[2][MOST_RM3];
     struct reply replies[2];
@@ -262,7 +265,7 @@ static void compare(const struct row *row, const struct input *in)
         : memcmp(tables[0], tables[1], MOST_BUFFER) != 0 || memcmp(outs[0], outs[1], sizeof out) != 0 ? "leaves two results"
         : 0;
     if (wrong) {
-        printf("bench: %s at %u gates %s\n", row->name, in->gates, wrong);
+        printf("bench: %s gates: %s\n", in->label, wrong);
         exit(1);
     }
 }
@@ -317,74 +320,85 @@ static void measure(const struct input *in, double *times)
     }
 }
 
-static void times(const char *mark)
+static const unsigned SIZES[] = { 16, 128, 256, 512, 1024 };
+
+/* The sizes of the table of times: small, middle and largest. */
+static int is_shown(unsigned k) { return k == 0 || k == 2 || k == 4; }
+
+static void print_times(const char *mark)
 {
-    static const unsigned SIZES[] = { 16, 128, 256, 512, 1024 };
-    static double results[COUNT][5][2];
-    static unsigned gates[COUNT][5];
+    static double times[COUNT][5][2];
     static struct input in;
+    printf("%-22s %6s %11s %11s %7s%s\n", "call", "gates", "ours, ns", "theirs, ns", "ratio", mark);
     for (unsigned i = 0; i < COUNT; i++)
         for (unsigned k = 0; k < 5; k++) {
             make_input(&in, &ROWS[i], SIZES[k]);
-            compare(&ROWS[i], &in);
-            measure(&in, results[i][k]);
-            gates[i][k] = in.gates;
+            compare(&in);
+            measure(&in, times[i][k]);
+            double ours = times[i][k][0], theirs = times[i][k][1];
+            if (is_shown(k))
+                printf("%s %11.0f %11.0f %7.2f%s\n", in.label, ours, theirs, ours / theirs, mark);
         }
-    printf("%-22s %6s %11s %11s %7s%s\n", "call", "gates", "ours, ns", "theirs, ns", "ratio", mark);
-    for (unsigned i = 0; i < COUNT; i++)
-        for (unsigned k = 0; k < 5; k += k == 1 ? 1 : 2) {
-            if (k == 1)
-                continue;
-            double ours = results[i][k][0], theirs = results[i][k][1];
-            printf("%-22s %6u %11.0f %11.0f %7.2f%s\n", ROWS[i].name, gates[i][k], ours, theirs, ours / theirs, mark);
-        }
-    printf("\n%-22s %11s %8s %8s %8s%s\n", "growth of our time", "128, ns", "to 256", "to 512", "to 1024", mark);
+    printf("\n%-22s %6s %11s %11s %7s%s\n", "growth of our time", "128", "to 256", "to 512", "to 1024", mark);
     for (unsigned i = 0; i < COUNT; i++) {
-        printf("%-22s %11.0f", ROWS[i].name, results[i][1][0]);
+        printf("%-22s %6.0f", ROWS[i].name, times[i][1][0]);
         for (unsigned k = 2; k < 5; k++)
-            printf(" %8.2f", results[i][k][0] / results[i][k - 1][0]);
+            printf(" %*.2f", k < 4 ? 11 : 7, times[i][k][0] / times[i][k - 1][0]);
         printf("%s\n", mark);
     }
 }
 
-/* The trace. */
+/* The trace: its inputs come from outside, so that little stands in it but the calls. */
 
-static void say(const char *text) { write(1, text, strlen(text)); }
-
-static void trace(const char *name, const char *size, const struct input *in)
-{
-    static uint8_t table[MOST_BUFFER];
-    for (unsigned s = 0; s < 2; s++) {
-        struct reply reply;
-        memcpy(table, in->table, in->length);
-        say(name);
-        say(size);
-        say(SIDES[s].name);
-        say("\nbegin\n");
-        ask(&SIDES[s], in, table, &reply);
-        say("end\n");
-    }
-}
-
-static void traced(void)
+static void write_inputs(void)
 {
     static struct input in;
-    trace("row nothing", "/16/", &in);
-    for (unsigned i = 0; i < COUNT; i++) {
-        make_input(&in, &ROWS[i], 16);
-        trace(ROWS[i].name, "/16/", &in);
-        make_input(&in, &ROWS[i], 256);
-        trace(ROWS[i].name, "/256/", &in);
-        make_input(&in, &ROWS[i], 1024);
-        trace(ROWS[i].name, in.gates == 1024 ? "/1024/" : "/1022/", &in);
+    memcpy(in.label, "nothing", 8);
+    for (unsigned s = 0; s < 2; s++)
+        fwrite(&in, sizeof in, 1, stdout);
+    for (unsigned i = 0; i < COUNT; i++)
+        for (unsigned k = 0; k < 5; k++)
+            if (is_shown(k) && ROWS[i].call != SCRIPT) {
+                make_input(&in, &ROWS[i], SIZES[k]);
+                compare(&in);
+                for (unsigned s = 0; s < 2; s++)
+                    fwrite(&in, sizeof in, 1, stdout);
+            }
+}
+
+static int read_input(struct input *in)
+{
+    for (size_t had = 0; had < sizeof *in;) {
+        long more = read(0, (uint8_t *)in + had, sizeof *in - had);
+        if (more <= 0)
+            return 0;
+        had += (size_t)more;
+    }
+    return 1;
+}
+
+static void trace(void)
+{
+    static struct input in;
+    struct reply reply;
+    char line[sizeof in.label + 8];
+    memset(&in, 0, sizeof in); /* so that no call below is the first one of memset, which finds it */
+    for (unsigned turn = 0; read_input(&in); turn++) {
+        int length = snprintf(line, sizeof line, "%s\nbegin\n", in.label);
+        write(1, line, (size_t)length);
+        ask(&SIDES[turn % 2], &in, in.table, &reply);
+        write(1, "end\n", 4);
     }
 }
 
 int main(int count, char **words)
 {
-    if (count > 1 && strcmp(words[1], "traced") == 0)
-        traced();
+    const char *word = count > 1 ? words[1] : "";
+    if (strcmp(word, "inputs") == 0)
+        write_inputs();
+    else if (strcmp(word, "traced") == 0)
+        trace();
     else
-        times(count > 2 ? words[2] : "");
+        print_times(word);
     return 0;
 }

@@ -1,0 +1,11 @@
+# Reads what `bench traced` and the emulator's trace of each instruction say, and prints the instructions of each call, without those
+# of asking. An instruction that repeats itself, as those that set memory do, counts once.
+/^Trace/ { if ($4 != last) n++; last = $4; next }
+/^begin$/ { n = 0; next }
+/^end$/ {
+    if (++ends % 2) ours = n
+    else if (ends == 2) { none[0] = ours; none[1] = n; printf "%-22s %6s %11s %11s %7s\n", "call", "gates", "ours", "theirs", "ratio" }
+    else printf "%s %11d %11d %7.2f\n", label, ours - none[0], n - none[1], (ours - none[0]) / (n - none[1])
+    next
+}
+{ label = $0; sub(/Trace.*/, "", label) }
