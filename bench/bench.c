@@ -382,7 +382,6 @@ static void trace(void)
     static struct input in;
     struct reply reply;
     char line[sizeof in.label + 8];
-    memset(&in, 0, sizeof in); /* so that no call below is the first one of memset, which finds it */
     for (unsigned turn = 0; read_input(&in); turn++) {
         int length = snprintf(line, sizeof line, "%s\nbegin\n", in.label);
         write(1, line, (size_t)length);
