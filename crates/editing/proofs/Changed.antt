@@ -5,10 +5,22 @@ use mathlib.Core.List.{List, [], _∷_, _++_, map}
 use native.Mathlib.Omega.{arith}
 use lib.ListN.{length, take, drop, length-append, length-take, length-drop, length-map, List·getD-append}
 use lib.Seq.{getD-append-add, getD-take, getD-drop, length-take-le}
+use mathlib.Core.Bool.{_||_, false}
+use lib.Dec.{eqb}
+use Rattle.majority.specs.Edge.{nodeOf, redirect}
 use Rattle.majority.specs.Table.{blank, recordAt}
 use Rattle.majority.specs.Edit.{edges}
 use Rattle.majority.specs.declared.Record.{Record}
-use Rattle.editing.specs.Edited.{changedFrom, raise16, grown}
+use Rattle.majority.proofs.Logic.{neither}
+use Rattle.editing.specs.Edited.{namesNode, changedFrom, raise16, grown}
+
+-- where a node is redirected, a record that does not name it stays
+pub unnamed : (k e : ℕ) (r : Record) → namesNode k r ≡ false → edges (redirect k e) r ≡ r
+unfolding redirect
+unnamed k e r h =
+    let w = neither (eqb (nodeOf (r .e1)) k || eqb (nodeOf (r .e2)) k) (eqb (nodeOf (r .e3)) k) h in
+    let v = neither (eqb (nodeOf (r .e1)) k) (eqb (nodeOf (r .e2)) k) (w .0) in
+    simp (v .0, v .1, w .1)
 
 pub map-at : (f : Record → Record) (t : List Record) (j : ℕ) → j < length t → recordAt (map f t) j ≡ f (recordAt t j)
 map-at f [] j h = absurd (omega arith)

@@ -16,7 +16,7 @@ use Rattle.tables.specs.Bytes.{recordIn, tableOf, putRecord}
 use Rattle.tables.proofs.Decoded.{length-table, table-at}
 use Rattle.tables.proofs.Encoded.{Bytes}
 use Rattle.editing.specs.Edited.{holding, changedFrom, raise16, grown}
-use Rattle.editing.proofs.Stored.{Stored, mixed, mixed-low, mixed-high, stored-same, stored-up, stored-down, stored-put, stored-holding}
+use Rattle.editing.proofs.Stored.{Stored, mixed, mixed-low, mixed-high, stored-same, stored-up, stored-kept, stored-down, stored-put, stored-holding}
 use Rattle.editing.proofs.Changed.{changed-length, changed-low, changed-high, grown-length, grown-low, grown-here, grown-high}
 
 -- a record that the code reads, where the buffer has it
@@ -52,13 +52,18 @@ module _ (f : Record → Record) (xs : List ℕ) (first n : ℕ) where
         go j h (yes l) = sym (mixed-low first _ _ j l ∙ changed-low f first table within j l ∙ table-at xs n j h)
         go j h (no l) = sym (mixed-high first _ _ j (omega arith) ∙ table-at xs n j h)
 
+    becomes : (ys : List ℕ) (i : ℕ) → first ≤ i → i < n → Editing i ys → f (recordAt (tableOf ys (length ys / 8)) i) ≡ recordAt edited i
+    becomes ys i l h s =
+        ap f (read ys i (omega (arith, s .long)) ∙ s .records i h ∙ mixed-high i _ _ i (omega arith))
+        ∙ sym (changed-high f first table within i l (omega (arith, length-table xs n)))
+
     pub edit-next : (ys : List ℕ) (i : ℕ) (r : Record) → first ≤ i → i < n → r ≡ f (recordAt (tableOf ys (length ys / 8)) i) → Editing i ys → Editing (i + 1) (putRecord ys i r)
-    edit-next ys i r l h e s =
-        stored-up fits (recordAt edited) (recordAt table) i r h
-        (e
-        ∙ ap f (read ys i (omega (arith, s .long)) ∙ s .records i h ∙ mixed-high i _ _ i (omega arith))
-        ∙ sym (changed-high f first table within i l (omega (arith, length-table xs n))))
-        s
+    edit-next ys i r l h e s = stored-up fits (recordAt edited) (recordAt table) i r h (e ∙ becomes ys i l h s) s
+
+    -- a record that the edit does not change may stay as it is
+    pub edit-skip : (ys : List ℕ) (i : ℕ) → first ≤ i → i < n → f (recordAt (tableOf ys (length ys / 8)) i) ≡ recordAt (tableOf ys (length ys / 8)) i → Editing i ys → Editing (i + 1) ys
+    edit-skip ys i l h e s =
+        stored-kept fits (recordAt edited) (recordAt table) i (sym (read ys i (omega (arith, s .long))) ∙ sym e ∙ becomes ys i l h s) s
 
     pub edit-end : (ys : List ℕ) (i : ℕ) → n ≤ i → Bytes ys → Editing i ys → ys ≡ holding edited xs
     edit-end ys i h bytes s =

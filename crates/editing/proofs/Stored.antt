@@ -36,6 +36,14 @@ pub mixed-high : (i : ℕ) (low high : ℕ → Record) (j : ℕ) → i ≤ j →
 unfolding mixed
 mixed-high i low high j h = rw (le-ltb j i h)
 
+-- where the two meet one record further on, only that record may be another
+mixed-next : (low high : ℕ → Record) (i j : ℕ) → (j ≡ i → ⊥) → mixed i low high j ≡ mixed (i + 1) low high j
+mixed-next low high i j e = go (decLt j i)
+  where
+    go : Dec (j < i) → mixed i low high j ≡ mixed (i + 1) low high j
+    go (yes l) = mixed-low i low high j l ∙ sym (mixed-low (i + 1) low high j (omega arith))
+    go (no l) = mixed-high i low high j (omega arith) ∙ sym (mixed-high (i + 1) low high j (omega arith))
+
 -- the records that a buffer has
 pub stored-same : (xs : List ℕ) (n : ℕ) (want : ℕ → Record) → ((j : ℕ) → j < n → recordIn xs j ≡ want j) → Stored xs n want xs
 stored-same xs n want is = record { long = refl; rest = refl; records = is }
@@ -59,24 +67,20 @@ module _ {xs : List ℕ} {n : ℕ} (fits : 8 * n ≤ length xs) where
   -- from below: record i is what it becomes
   pub stored-up : (low high : ℕ → Record) {ys : List ℕ} (i : ℕ) (r : Record) → i < n → r ≡ low i → Stored xs n (mixed i low high) ys → Stored xs n (mixed (i + 1) low high) (putRecord ys i r)
   stored-up low high i r h here s =
-      stored-put (mixed (i + 1) low high) i r h (here ∙ sym (mixed-low (i + 1) low high i (omega arith)))
-      (λ j e. go j e (decLt j i))
-      s
+      stored-put (mixed (i + 1) low high) i r h (here ∙ sym (mixed-low (i + 1) low high i (omega arith))) (mixed-next low high i) s
+
+  -- from below: record i is already what it becomes
+  pub stored-kept : (low high : ℕ → Record) {ys : List ℕ} (i : ℕ) → recordIn ys i ≡ low i → Stored xs n (mixed i low high) ys → Stored xs n (mixed (i + 1) low high) ys
+  stored-kept low high {ys} i here s = record { long = s .long; rest = s .rest; records = λ j l. go j l (ℕ-discrete j i) }
     where
-      go : (j : ℕ) → (j ≡ i → ⊥) → Dec (j < i) → mixed i low high j ≡ mixed (i + 1) low high j
-      go j e (yes l) = mixed-low i low high j l ∙ sym (mixed-low (i + 1) low high j (omega arith))
-      go j e (no l) = mixed-high i low high j (omega arith) ∙ sym (mixed-high (i + 1) low high j (omega arith))
+      go : (j : ℕ) → j < n → Dec (j ≡ i) → recordIn ys j ≡ mixed (i + 1) low high j
+      go j l (yes e) = rw e (here ∙ sym (mixed-low (i + 1) low high i (omega arith)))
+      go j l (no e) = s .records j l ∙ mixed-next low high i j e
 
   -- from above: record i is what it becomes
   pub stored-down : (low high : ℕ → Record) {ys : List ℕ} (i : ℕ) (r : Record) → i < n → r ≡ high i → Stored xs n (mixed (i + 1) low high) ys → Stored xs n (mixed i low high) (putRecord ys i r)
   stored-down low high i r h here s =
-      stored-put (mixed i low high) i r h (here ∙ sym (mixed-high i low high i (omega arith)))
-      (λ j e. go j e (decLt j i))
-      s
-    where
-      go : (j : ℕ) → (j ≡ i → ⊥) → Dec (j < i) → mixed (i + 1) low high j ≡ mixed i low high j
-      go j e (yes l) = mixed-low (i + 1) low high j (omega arith) ∙ sym (mixed-low i low high j l)
-      go j e (no l) = mixed-high (i + 1) low high j (omega arith) ∙ sym (mixed-high i low high j (omega arith))
+      stored-put (mixed i low high) i r h (here ∙ sym (mixed-high i low high i (omega arith))) (λ j e. sym (mixed-next low high i j e)) s
 
   -- all records are told, so all bytes are
   pub stored-table : {want : ℕ → Record} {ys : List ℕ} (t : List Record) → length t ≡ n → ((j : ℕ) → j < n → want j ≡ recordAt t j) → Stored xs n want ys → tableOf ys n ≡ t

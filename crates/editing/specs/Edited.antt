@@ -2,10 +2,10 @@
 use Prim.Native.Nat.{ℕ, _+_, _-_, _*_, _/_, _%_}
 use mathlib.Core.Bool.{Bool, _||_}
 use mathlib.Core.List.{List, _∷_, _++_, map}
-use lib.Dec.{ltb, leb}
+use lib.Dec.{eqb, ltb, leb}
 use lib.ListN.{length, take, drop}
 use Rattle.majority.specs.If.{if_then_else_}
-use Rattle.majority.specs.Edge.{redirect, raise}
+use Rattle.majority.specs.Edge.{nodeOf, redirect, raise}
 use Rattle.majority.specs.Table.{blank}
 use Rattle.majority.specs.Edit.{edges}
 use Rattle.majority.specs.declared.Record.{Record}
@@ -22,6 +22,10 @@ changedFrom f i t = take i t ++ map f (drop i t)
 -- the buffer xs with f of each record from record i on, up to n; as it was where it has fewer than n records, or i is past n
 unfoldable pub editedFrom : (Record → Record) → List ℕ → ℕ → ℕ → List ℕ
 editedFrom f xs i n = if ltb (length xs / 8) n || ltb n i then xs else holding (changedFrom f i (tableOf xs n)) xs
+
+-- an edge of the record r names node k
+abbrev pub namesNode : ℕ → Record → Bool
+namesNode k r = eqb (nodeOf (r .e1)) k || eqb (nodeOf (r .e2)) k || eqb (nodeOf (r .e3)) k
 
 -- node g is redirected to the edge e
 abbrev pub redirectedFrom : List ℕ → ℕ → ℕ → ℕ → ℕ → List ℕ

@@ -8,7 +8,7 @@ use tables::record_at;
 ghost use mathlib.Core.Path.{_≡_};
 ghost use Rattle.majority.specs.Edge.{redirect as redirectEdge};
 ghost use Rattle.majority.specs.Edit.{edges};
-ghost use Rattle.editing.specs.Edited.{raise16, redirectedFrom, insertedAt, clearedFrom};
+ghost use Rattle.editing.specs.Edited.{namesNode, raise16, redirectedFrom, insertedAt, clearedFrom};
 
 fn redirected_record(from: u16, to: u16, r: Record) -> Record
     ensures { λ q. ⌜ q ≡ edges (redirectEdge from to) r ⌝ }
@@ -21,6 +21,13 @@ fn redirected_record(from: u16, to: u16, r: Record) -> Record
     }
 }
 
+// An edge of the record names the node.
+fn names(k: u16, r: Record) -> bool
+    ensures { λ b. ⌜ b ≡ namesNode k r ⌝ }
+{
+    (node(r.e1) == k) | (node(r.e2) == k) | (node(r.e3) == k)
+}
+
 // Redirects a node to an edge, in the records of s from `first` on, up to n.
 pub fn redirect(s: &mut [u8], first: usize, n: usize, from: u16, to: u16)
     ensures { λ _. ⌜ now (s .exit) ≡ redirectedFrom (now (s .entry)) first n from to ⌝ }
@@ -31,7 +38,9 @@ pub fn redirect(s: &mut [u8], first: usize, n: usize, from: u16, to: u16)
     let mut i = first;
     while i < n {
         let r = record_at(s, i);
-        put_record(s, i, redirected_record(from, to, r));
+        if names(from, r) {
+            put_record(s, i, redirected_record(from, to, r));
+        }
         i += 1;
     }
 }
@@ -40,7 +49,7 @@ pub fn redirect(s: &mut [u8], first: usize, n: usize, from: u16, to: u16)
 fn raised(g: u16, edge: u16) -> u16
     ensures { λ r. ⌜ r ≡ raise16 g edge ⌝ }
 {
-    if node(edge) < g {
+    if (edge as usize) < 2 * (g as usize) {
         return edge;
     }
     wrapping_add_u16(edge, 2)

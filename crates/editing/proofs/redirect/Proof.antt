@@ -6,10 +6,12 @@ use borrow.Author.Tests.{ltb-false}
 use Prim.Native.Nat.{ℕ, _-_, _/_, _≤_}
 use lib.Dec.{ltb}
 use lib.ListN.{length}
+use mathlib.Core.Logic.{⊎-elim}
 use Rattle.majority.proofs.Logic.{neither}
 use Rattle.tables.proofs.Encoded.{Bytes}
 use Rattle.editing.specs.Edited.{editedFrom}
-use Rattle.editing.proofs.Loops.{Editing, edit-room, edit-start, edit-next, edit-end}
+use Rattle.editing.proofs.Loops.{Editing, edit-room, edit-start, edit-next, edit-skip, edit-end}
+use Rattle.editing.proofs.Changed.{unnamed}
 use Rattle.majority.specs.Edge.{redirect}
 use Rattle.majority.specs.Edit.{edges}
 use Rattle.editing.proofs.redirect.Statement.{statement}
@@ -33,6 +35,9 @@ loop-holds c = let a = c .before .before .args in
 record-at-requires : tie.Need-record-at-requires Inv-loop μ-loop
 record-at-requires c κs = search needs
 
+names-requires : tie.Need-names-requires Inv-loop μ-loop
+names-requires c κs = search needs
+
 redirected-record-requires : tie.Need-redirected-record-requires Inv-loop μ-loop
 redirected-record-requires c κs = search needs
 
@@ -46,16 +51,21 @@ loop-less : tie.Need-loop-less Inv-loop μ-loop
 loop-less c = search needs
 
 loop-again : tie.Need-loop-again Inv-loop μ-loop
-loop-again c = let l = c .before .before .before .before .before .before .before .before in
+loop-again c = let l = c .before .before .before .before .before in
     let a = l .before .before .before .args in
     let room = edit-room (a .s .now) (a .first) (a .n) (l .before .if1 .left) in
-    let p = c .before .before in
-    let put = edit-next (edges (redirect (a .from) (a .to))) (a .s .now) (a .first) (a .n) (room .0) (room .1) (l .loop .s) (l .loop .i) _ (l .loop .inv .0)
-    (c .before .before .before .before .before .before .before .loop-test .taken)
-    (p .before .redirected-record .ensures ∙ ap (edges (redirect (a .from) (a .to))) (p .before .before .before .record-at .ensures))
-    (l .loop .inv .2)
-    in
-    (search needs, λ k. c .slice-known2 .given k .fits, rw (p .put-record .ensures) put)
+    let test = c .before .before .before .before .loop-test .taken in
+    let read = c .before .before .record-at .ensures in
+    let f = edges (redirect (a .from) (a .to)) in
+    ⊎-elim
+    (λ w.
+    let put = edit-next f (a .s .now) (a .first) (a .n) (room .0) (room .1) (l .loop .s) (l .loop .i) _ (l .loop .inv .0) test (w .2 .ensures ∙ ap f read) (l .loop .inv .2) in
+    (search needs, rw (w .6) (λ k. w .5 .given k .fits), rw (w .6 ∙ w .3 .ensures) put))
+    (λ w.
+    let same = sym (ap f read) ∙ unnamed (a .from) (a .to) _ (sym (c .before .names .ensures) ∙ w .0 .left) ∙ read in
+    let skip = edit-skip f (a .s .now) (a .first) (a .n) (room .0) (room .1) (l .loop .s) (l .loop .i) (l .loop .inv .0) test same (l .loop .inv .2) in
+    (search needs, rw (w .1) (l .loop .inv .1), rw (w .1) skip))
+    (c .if2 .came)
 
 same-length : tie.Need-same-length Inv-loop μ-loop
 same-length c = c .before .loop .inv .2 .long
@@ -76,6 +86,7 @@ redirect-spec =
     returns
     loop-holds
     record-at-requires
+    names-requires
     redirected-record-requires
     put-record-requires
     add-i
