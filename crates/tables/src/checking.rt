@@ -11,7 +11,6 @@ use majority::MOST_INPUTS;
 use majority::MOST_OUTPUTS;
 use majority::OUTPUT;
 use majority::Record;
-use majority::node;
 ghost use mathlib.Core.Path.{_≡_};
 ghost use Prim.Native.Nat.{_+_, _-_, _*_, _≤_};
 ghost use lib.ListN.{length};
@@ -58,13 +57,15 @@ fn not_zero(r: Record) -> bool
 
 // The edge names a node past last.
 fn names_past(last: usize, edge: u16) -> bool
+    requires { ⌜ 2 * last + 1 ≤ 18446744073709551615 ⌝ }
     ensures { λ r. ⌜ r ≡ past last edge ⌝ }
 {
-    last < node(edge) as usize
+    2 * last + 1 < edge as usize
 }
 
 // An edge of record i names a node it may not, in a table whose last node is last.
 fn bad_edge(last: usize, i: usize, r: Record) -> bool
+    requires { ⌜ (2 * last + 1 ≤ 18446744073709551615) × (2 * i + 1 ≤ 18446744073709551615) ⌝ }
     ensures { λ b. ⌜ b ≡ badEdge last i r ⌝ }
 {
     if r.kind == INPUT {
@@ -84,6 +85,7 @@ pub(crate) enum Fault {
 }
 
 fn fault_of(last: usize, i: usize, r: Record) -> Fault
+    requires { ⌜ (2 * last + 1 ≤ 18446744073709551615) × (2 * i + 1 ≤ 18446744073709551615) ⌝ }
     ensures { λ f. ⌜ faultNumber f ≡ faultOf last i r ⌝ }
 {
     let filled = not_zero(r);
