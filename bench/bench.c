@@ -2,7 +2,7 @@
  * Measures the library against the plain baseline, in turn on the same inputs, and stops where they do not answer the same.
  *
  *   bench [MARK]         prints the times of both at three sizes, and how our time grows as the table doubles
- *   bench inputs         writes the inputs of all rows but the script, each twice: what `bench traced` reads
+ *   bench inputs         writes the inputs of all rows, each twice: what `bench traced` reads
  *   bench traced         asks ours and theirs in turn, each call between two lines, so that a trace shows its instructions
  *
  * A step is asked of the gate in the middle, which has the rule's form; where a rule inserts, the largest table has 1,022 gates.
@@ -358,7 +358,7 @@ static void write_inputs(void)
         fwrite(&in, sizeof in, 1, stdout);
     for (unsigned i = 0; i < COUNT; i++)
         for (unsigned k = 0; k < 5; k++)
-            if (is_shown(k) && ROWS[i].call != SCRIPT) {
+            if (is_shown(k)) {
                 make_input(&in, &ROWS[i], SIZES[k]);
                 compare(&in);
                 for (unsigned s = 0; s < 2; s++)
