@@ -3,3 +3,4 @@ pub mod Calls
 pub mod Turned
 pub mod Laid
 pub mod Levelled
+pub mod Claimed

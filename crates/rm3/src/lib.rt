@@ -4,17 +4,20 @@ mod levels;
 mod writing;
 
 use levels::depth;
+use majority::Counts;
 use majority::MOST_GATES;
 use majority::MOST_INPUTS;
 use majority::MOST_OUTPUTS;
 use tables::Checked;
 use tables::Refusal;
 use tables::check;
-use writing::written;
+use tables::check_as;
+use writing::written_after;
 ghost use mathlib.Core.Path.{_≡_};
 ghost use lib.ListN.{length};
 ghost use Rattle.rm3.specs.Said.{saidTranslate, saidDepth};
 ghost use Rattle.rm3.specs.Calls.{translateOf, translateBytes, depthOf};
+ghost use Rattle.rm3.specs.Claimed.{claimedTranslate, claimedBytes};
 
 // The most bytes that an RM3 table has: 32 inputs, three operations a gate and one an output, and 32 outputs.
 pub const MOST_BYTES: usize = 8 * (MOST_INPUTS + 3 * MOST_GATES + 2 * MOST_OUTPUTS);
@@ -34,10 +37,15 @@ pub fn translate(s: &[u8], used: usize, out: &mut [u8]) -> Translated
     ensures reply { λ r. ⌜ saidTranslate r ≡ translateOf (now (s .entry)) used (length (now (out .entry))) ⌝ }
     ensures bytes { λ _. ⌜ now (out .exit) ≡ translateBytes (now (s .entry)) used (now (out .entry)) ⌝ }
 {
-    match check(s, used) {
-        Checked::Accepted(counts) => written(s, counts, out),
-        Checked::Refused(refusal) => Translated::Refused(refusal),
-    }
+    written_after(s, check(s, used), out)
+}
+
+// The same of all bytes of s, whose counts are claimed.
+pub fn translate_as(s: &[u8], claim: Counts, out: &mut [u8]) -> Translated
+    ensures reply { λ r. ⌜ saidTranslate r ≡ claimedTranslate (now (s .entry)) claim (length (now (out .entry))) ⌝ }
+    ensures bytes { λ _. ⌜ now (out .exit) ≡ claimedBytes (now (s .entry)) claim (now (out .entry)) ⌝ }
+{
+    written_after(s, check_as(s, claim), out)
 }
 
 // The depth of the RM3 table of the table in the first used bytes of s.

@@ -12,6 +12,7 @@ use patterns::operation;
 use patterns::output;
 use patterns::output_helped;
 use patterns::pattern_of;
+use tables::Checked;
 use tables::Refusal;
 use tables::put_record;
 use tables::record_at;
@@ -24,7 +25,8 @@ ghost use Rattle.majority.specs.Edge.{nodeOf};
 ghost use Rattle.majority.specs.Table.{Below};
 ghost use Rattle.majority.specs.Translate.{classOf, needsHelper, place as placeOf, gate3, translation};
 ghost use Rattle.majority.proofs.Rm3Nodes.{after};
-ghost use Rattle.tables.specs.Worths.{Sound, tableIn, Fresh};
+ghost use Rattle.tables.specs.Worths.{Sound, SoundAfter, tableIn, Fresh};
+ghost use Rattle.tables.specs.Said.{saidCheck};
 ghost use Rattle.rm3.specs.Said.{saidTranslate};
 ghost use Rattle.rm3.specs.Calls.{rm3In, inBytes, over};
 ghost use Rattle.rm3.specs.Laid.{Places, Writes, operandsIn, Gone, LaidWhole};
@@ -154,7 +156,7 @@ fn write(s: &[u8], counts: Counts, first: usize, out: &mut [u8])
 }
 
 // Writes the RM3 table of an accepted table, where there is room, and answers its length.
-pub(crate) fn written(s: &[u8], counts: Counts, out: &mut [u8]) -> Translated
+fn written(s: &[u8], counts: Counts, out: &mut [u8]) -> Translated
     requires { ⌜ Sound (now s) counts ⌝ }
     ensures reply { λ r. ⌜ saidTranslate r ≡ andThen (rm3In (length (now (out .entry))) (tableIn (now (s .entry)) counts) counts) inBytes ⌝ }
     ensures bytes { λ _. ⌜ now (out .exit) ≡ over (rm3In (length (now (out .entry))) (tableIn (now (s .entry)) counts) counts) (now (out .entry)) ⌝ }
@@ -166,4 +168,16 @@ pub(crate) fn written(s: &[u8], counts: Counts, out: &mut [u8]) -> Translated
     }
     write(s, counts, first, out);
     Translated::Length(length)
+}
+
+// The same of a table that was checked.
+pub(crate) fn written_after(s: &[u8], checked: Checked, out: &mut [u8]) -> Translated
+    requires { ⌜ SoundAfter (now s) (saidCheck checked) ⌝ }
+    ensures reply { λ r. ⌜ saidTranslate r ≡ andThen (andThen (saidCheck checked) (λ c. rm3In (length (now (out .entry))) (tableIn (now (s .entry)) c) c)) inBytes ⌝ }
+    ensures bytes { λ _. ⌜ now (out .exit) ≡ over (andThen (saidCheck checked) (λ c. rm3In (length (now (out .entry))) (tableIn (now (s .entry)) c) c)) (now (out .entry)) ⌝ }
+{
+    match checked {
+        Checked::Accepted(counts) => written(s, counts, out),
+        Checked::Refused(refusal) => Translated::Refused(refusal),
+    }
 }
