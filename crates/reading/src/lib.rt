@@ -1,5 +1,7 @@
 // A reading: lent records with their three counts, and the questions that it answers.
 use majority::Counts;
+use rm3::Translated;
+use rm3::translate_as;
 use tables::Checked;
 use tables::Reported;
 use tables::Valued;
@@ -7,9 +9,11 @@ use tables::check_as;
 use tables::evaluate_as;
 use tables::report_as;
 ghost use mathlib.Core.Path.{_≡_};
-ghost use lib.ListN.{take};
+ghost use lib.ListN.{length, take};
 ghost use Rattle.tables.specs.Said.{saidCheck, saidValue, saidReport};
 ghost use Rattle.tables.specs.Claimed.{claimedCheck, claimedEvaluate, claimedReport};
+ghost use Rattle.rm3.specs.Said.{saidTranslate};
+ghost use Rattle.rm3.specs.Claimed.{claimedTranslate, claimedBytes};
 ghost use Rattle.reading.specs.Held.{claim, claimed, foundIn, partIn, countsIn, readCheck, readEvaluate, readReport};
 
 // Nothing of a reading is trusted: each question checks the records and the counts again.
@@ -53,6 +57,18 @@ fn report_parts(records: &[u8], inputs: usize, gates: usize, outputs: usize) -> 
     ensures { λ r. ⌜ saidReport r ≡ claimedReport (now (records .entry)) (claim inputs gates outputs) ⌝ }
 {
     report_as(records, counts(inputs, gates, outputs))
+}
+
+fn translate_parts(
+    records: &[u8],
+    inputs: usize,
+    gates: usize,
+    outputs: usize,
+    out: &mut [u8],
+) -> Translated
+    ensures { λ r. ⌜ (saidTranslate r ≡ claimedTranslate (now (records .entry)) (claim inputs gates outputs) (length (now (out .entry)))) × (now (out .exit) ≡ claimedBytes (now (records .entry)) (claim inputs gates outputs) (now (out .entry))) ⌝ }
+{
+    translate_as(records, counts(inputs, gates, outputs), out)
 }
 
 // The used length and counts of a table, all zero where there is none.
@@ -137,6 +153,13 @@ pub fn report<'a>(r: Reading<'a>) -> Reported
     ensures { λ x. ⌜ saidReport x ≡ claimedReport (now (r .entry .records)) (claimed (r .entry)) ⌝ }
 {
     report_parts(r.records, r.inputs, r.gates, r.outputs)
+}
+
+// Writes the RM3 table to the beginning of out, and answers its length.
+pub fn translate<'a, 'b>(r: Reading<'a>, out: &'b mut [u8]) -> Translated
+    ensures { λ x. ⌜ (saidTranslate x ≡ claimedTranslate (now (r .entry .records)) (claimed (r .entry)) (length (now (out .entry)))) × (now (out .exit) ≡ claimedBytes (now (r .entry .records)) (claimed (r .entry)) (now (out .entry))) ⌝ }
+{
+    translate_parts(r.records, r.inputs, r.gates, r.outputs, out)
 }
 
 // The same of records and counts: whoever calls these handles no reading.
