@@ -187,6 +187,18 @@ pub fn reported_as(records: &[u8], inputs: usize, gates: usize, outputs: usize) 
     report(hold(records, inputs, gates, outputs))
 }
 
+pub fn translated_as(
+    records: &[u8],
+    inputs: usize,
+    gates: usize,
+    outputs: usize,
+    out: &mut [u8],
+) -> Translated
+    ensures { λ r. ⌜ (saidTranslate r ≡ claimedTranslate (now (records .entry)) (claim inputs gates outputs) (length (now (out .entry)))) × (now (out .exit) ≡ claimedBytes (now (records .entry)) (claim inputs gates outputs) (now (out .entry))) ⌝ }
+{
+    translate(hold(records, inputs, gates, outputs), out)
+}
+
 // The same of the table that the first used bytes of s hold, asked of its reading: a table that the check refuses is refused with 3.
 pub fn checked(s: &[u8], used: usize) -> Checked
     ensures { λ r. ⌜ saidCheck r ≡ readCheck (now (s .entry)) used ⌝ }

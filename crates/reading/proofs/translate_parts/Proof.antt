@@ -19,9 +19,10 @@ same-length c = search needs
 returns : tie.Need-returns
 returns c = let w = c .before .before in
     let k = w .before .before in
-    let a = k .before .before .before .args in
-    (w .translate-as .ensures .0 ∙ ap (λ (d : Counts). claimedTranslate (a .records .now) d (length (a .out .now))) (k .counts .ensures),
-    w .translate-as .ensures .1 ∙ ap (λ (d : Counts). claimedBytes (a .records .now) d (a .out .now)) (k .counts .ensures))
+    let a = k .before .before .before .args in (
+      w .translate-as .ensures .0 ∙ ap (λ (d : Counts). claimedTranslate (a .records .now) d (length (a .out .now))) (k .counts .ensures),
+      w .translate-as .ensures .1 ∙ ap (λ (d : Counts). claimedBytes (a .records .now) d (a .out .now)) (k .counts .ensures),
+    )
 
 pub translate-parts-spec : {M : Type 1} → statement M
 translate-parts-spec =
