@@ -14,3 +14,4 @@ pub mod GateLevels
 pub mod Levelling
 pub mod Deepening
 pub mod Replies
+pub mod Claims

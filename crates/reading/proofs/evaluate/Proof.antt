@@ -13,14 +13,13 @@ use prog.Memory.{Memory}
 use prog.Routine.{Routine}
 use prog.Wp.{Heap, Calls, Loops, WpFn, Tables}
 use ghost.Atoms.{Atoms, sem}
-use contract.Lifetimes.{Lfts}
 use contract.Monad.{Fun, fact}
 use contract.Running.{givenOf, tables, tablesOf}
 use types.Kit.{Given, ‵, raw, _⊛_, given, ⋆, some, later, _$_, _∵_, !, qed, by, move, drop, use1, use2, split, join, learn, pick, fsplit, fjoin, suffices, frame, await, done}
 use types.Part.{whole, sub, look-in}
 use types.Run.{look, init, forget, stop, fld, from, load, of-opd, and-then, no-more, assigns, land, returns, enter, alloc1, alloc0, params1, pass1, pass0, free1, free0}
 use sound.WpLaws.{FmC, fmOf, WpFn-mono}
-use denote.RattleType.{RattleType, owns}
+use denote.RattleType.{owns}
 use denote.Laws.{Is, shows}
 use denote.Plain.{uint-makes, uint-vals, uint-tells}
 use denote.Builtin.{u8, usize, u32}
@@ -50,6 +49,7 @@ use Rattle.reading.specs.Held.{claimed}
 use Rattle.reading.specs.declared.Reading.{Reading}
 use Rattle.reading.proofs.Reading as T
 use Rattle.reading.proofs.Reading.Laws as T′
+use Rattle.reading.proofs.Asks.{B}
 use Rattle.reading.proofs.evaluate_parts as parts
 use Rattle.reading.proofs.evaluate_parts.Symbol as parts-def
 use Rattle.reading.proofs.evaluate_parts.Symbol.{name as #evaluate-parts}
@@ -58,10 +58,6 @@ use Rattle.reading.proofs.evaluate.Key.{name as #evaluate}
 use Rattle.reading.proofs.evaluate as evaluate
 use Rattle.reading.proofs.evaluate.Statement as stated
 use Rattle.reading.proofs.evaluate.Code as code
-
--- the struct's type, over the signature's lifetimes
-abbrev B : Lfts 1 → RattleType
-B κs = T.the-row (namedLft 1 0 tt κs)
 
 abbrev stayed : Stays (evaluate.ended .signature .params) (evaluate.ended .kept)
 stayed = (stay-none B yes, (stay-none (λ _. u32) yes, tt))
