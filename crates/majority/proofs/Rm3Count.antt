@@ -11,12 +11,12 @@ use Rattle.majority.specs.Edge.{nodeOf}
 use Rattle.majority.specs.Table.{input, output}
 use Rattle.majority.specs.Node.{byKind}
 use Rattle.majority.specs.Rm3.{operation}
-use Rattle.majority.specs.Translate.{Class, constant, plain, inverted, classOf, isConstant, needsHelper, Placed, place, inOrder, gate3, nodes3, outputs3}
+use Rattle.majority.specs.Translate.{after, Class, constant, plain, inverted, classOf, isConstant, needsHelper, Placed, place, inOrder, gate3, nodes3, outputs3}
 use Rattle.majority.specs.Count3.{helperCount, helpersOf, gateOperations, outputOperations, total}
 use Rattle.majority.specs.declared.Record.{Record}
 use Rattle.majority.proofs.Begins.{begins-last, length-more}
 use Rattle.majority.proofs.Rm3Gate.{middleOf}
-use Rattle.majority.proofs.Rm3Nodes.{after, named, nodes-begin}
+use Rattle.majority.proofs.Rm3Nodes.{named, nodes-begin}
 
 pub place-length : (isMiddle : Bool) (operands : List ℕ) (e : ℕ) (ts : List Record) → length (place isMiddle operands e ts .table) ≡ length ts + helperCount isMiddle (classOf e)
 unfolding place

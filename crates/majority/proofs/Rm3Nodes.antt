@@ -5,14 +5,10 @@ use native.Mathlib.Omega.{arith}
 use lib.ListN.{length}
 use Rattle.majority.specs.Table.{blank, input, recordAt}
 use Rattle.majority.specs.Node.{byKind}
-use Rattle.majority.specs.Translate.{gate3, nodes3}
+use Rattle.majority.specs.Translate.{after, nodes3}
 use Rattle.majority.specs.declared.Record.{Record}
 use Rattle.majority.proofs.Begins.{Begins, begins-same, begins-then, begins-append}
 use Rattle.majority.proofs.Rm3Gate.{gate-begins}
-
--- the table so far with what stands for the record r
-abbrev pub after : List ℕ → List Record → Record → List Record
-after operands ts r = byKind (r .kind) (ts ++ input ∷ []) (gate3 operands r ts) ts ts
 
 -- the operands so far with that of the node whose record ends the table so far
 abbrev pub named : List ℕ → List Record → List ℕ

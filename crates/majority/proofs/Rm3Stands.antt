@@ -6,13 +6,13 @@ use native.Mathlib.Omega.{arith}
 use native.Mathlib.Decide.{decLt}
 use lib.ListN.{length, getD}
 use Rattle.majority.specs.Table.{blank, input, recordAt, Below}
-use Rattle.majority.specs.Translate.{gate3, nodes3}
+use Rattle.majority.specs.Translate.{after, gate3, nodes3}
 use Rattle.majority.specs.declared.Record.{Record}
 use Rattle.majority.proofs.Begins.{Begins, All, begins-then, begins-append, begins-last, all-more, length-more}
 use Rattle.majority.proofs.Formed.{kind-two}
 use Rattle.majority.proofs.Rm3Place.{Origin, an-input, Known}
 use Rattle.majority.proofs.Rm3Gate.{Made, gate-begins, gate-origins, gate-made}
-use Rattle.majority.proofs.Rm3Nodes.{after, named, nodes-begin, nodes-induction}
+use Rattle.majority.proofs.Rm3Nodes.{named, nodes-begin, nodes-induction}
 
 -- what stands for record j, of n inputs and then gates: input j is operand j + 2, and a gate is its operation
 pub record Stands (n : ℕ) (operands : List ℕ) (ts : List Record) (j : ℕ) (r : Record) : Type 0 where

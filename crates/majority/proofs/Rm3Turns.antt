@@ -7,10 +7,10 @@ use native.Mathlib.Omega.{arith}
 use lib.ListN.{take, drop}
 use lib.Seq.{drop-cons, drop-length, getD-take}
 use Rattle.majority.specs.Table.{blank, input, output, recordAt, WellFormed}
-use Rattle.majority.specs.Translate.{place, gate3, nodes3, outputs3}
+use Rattle.majority.specs.Translate.{after, place, gate3, nodes3, outputs3}
 use Rattle.majority.specs.declared.Record.{Record}
 use Rattle.majority.proofs.Formed.{kind-two}
-use Rattle.majority.proofs.Rm3Nodes.{after, named}
+use Rattle.majority.proofs.Rm3Nodes.{named}
 use Rattle.majority.proofs.Rm3Formed.{front}
 
 module _ {n m o : ℕ} {rs : List Record} (formed : WellFormed n m o rs) (operands : List ℕ) (ts : List Record) where

@@ -69,6 +69,10 @@ gate3 operands r ts =
     let s = place (eqb mid 3) operands (r .e3) (q .table) in
     s .table ++ inOrder mid (p .operand) (q .operand) (s .operand) ∷ []
 
+-- the table so far with what stands for the node of the record r: an input is itself, a gate is translated
+abbrev pub after : List ℕ → List Record → Record → List Record
+after operands ts r = byKind (r .kind) (ts ++ input ∷ []) (gate3 operands r ts) ts ts
+
 -- the operands of the nodes so far, and the table so far
 pub record Nodes3 : Type 0 where
   pub operands : List ℕ
@@ -78,7 +82,7 @@ pub record Nodes3 : Type 0 where
 abbrev pub nodes3 : List ℕ → List Record → List Record → Nodes3
 nodes3 operands ts [] = record { operands = operands; table = ts }
 nodes3 operands ts (r ∷ rs) =
-    let next = byKind (r .kind) (ts ++ input ∷ []) (gate3 operands r ts) ts ts in
+    let next = after operands ts r in
     nodes3 (operands ++ (length next + 1) ∷ []) next rs
 
 -- inputs and operations with the helpers of the outputs, and the outputs' records

@@ -10,7 +10,8 @@ use Rattle.majority.specs.Node.{byKind}
 use Rattle.majority.specs.declared.Record.{Record}
 use Rattle.majority.specs.declared.Counts.{Counts}
 use Rattle.majority.proofs.Formed.{reads-lower}
-use Rattle.majority.proofs.Rm3Nodes.{after, named}
+use Rattle.majority.specs.Translate.{after}
+use Rattle.majority.proofs.Rm3Nodes.{named}
 use Rattle.majority.proofs.Rm3Size.{translated-size}
 use Rattle.tables.specs.Worths.{Sound, tableIn, Fresh}
 use Rattle.tables.proofs.Worths.{sound-accepted}

@@ -4,10 +4,9 @@ use mathlib.Core.Path.{_≡_, refl}
 use mathlib.Core.List.{List}
 use Rattle.majority.specs.Table.{input}
 use Rattle.majority.specs.Node.{byKind}
-use Rattle.majority.specs.Translate.{gate3}
+use Rattle.majority.specs.Translate.{after, gate3}
 use Rattle.majority.specs.declared.Record.{Record}
 use Rattle.majority.proofs.Formed.{kind-two}
-use Rattle.majority.proofs.Rm3Nodes.{after}
 use Rattle.tables.specs.Bytes.{putRecord}
 use Rattle.rm3.specs.Laid.{Writes}
 use Rattle.rm3.proofs.Laying.{writes-none, writes-put, writes-same}
