@@ -1,4 +1,4 @@
--- Bytes that a table is written to, record by record.
+-- Bytes that a table is written to, record by record (SPEC 6.1).
 use Prim.Native.Nat.{ℕ, suc, _+_, _*_, _≤_, _<_}
 use mathlib.Core.Path.{_≡_}
 use mathlib.Core.List.{List, []}

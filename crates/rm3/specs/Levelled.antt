@@ -1,4 +1,4 @@
--- Levels in the RM3 table, told from the majority table: of the operand that each edge gets, and of a gate's operation.
+-- Levels in the RM3 table (SPEC 6.1), told from the majority table: of the operand that each edge gets, and of a gate's operation.
 use Prim.Native.Nat.{ℕ, _+_, _-_, _≤_, max}
 use mathlib.Core.Path.{_≡_}
 use mathlib.Core.Bool.{Bool, false}

@@ -1,4 +1,4 @@
--- How far a pass over a table has come: what it has translated, and that what is left decides the whole.
+-- How far a pass over a table has come (SPEC 6.2): what it has translated, and that what is left decides the whole.
 use Prim.Native.Nat.{ℕ, suc, _+_}
 use mathlib.Core.Path.{_≡_}
 use mathlib.Core.List.{List, [], _∷_}
