@@ -1,32 +1,22 @@
 -- On an accepted table the edits of lent records are those of the rules: redirect, insert, and a gate that becomes another.
-use Prim.Native.Nat.{ℕ, zero, suc, _+_, _-_, _*_, _/_, _%_, _≤_, _<_}
-use mathlib.Core.Path.{_≡_, refl, sym, ap, ap₂, _∙_}
-use mathlib.Core.Bool.{Bool, true, false, _||_}
+use Prim.Native.Nat.{ℕ, _+_, _-_, _*_, _%_, _≤_, _<_}
+use mathlib.Core.Path.{_≡_, sym, ap, _∙_}
 use mathlib.Core.List.{List, [], _∷_, map}
 use native.Mathlib.Omega.{arith}
 use native.Mathlib.Decide.{decLt, ℕ-discrete}
-use borrow.Author.Tests.{le-ltb, lt-leb, ne-eqb}
-use lib.Dec.{ltb, leb, eqb}
-use lib.ListN.{length, set, length-map, length-set}
+use borrow.Author.Tests.{ne-eqb}
+use lib.ListN.{length, length-map}
 use lib.Seq.{ext-getD}
-use Rattle.majority.specs.If.{if_then_else_}
 use Rattle.majority.specs.Edge.{nodeOf, redirect, raise}
-use Rattle.majority.specs.Table.{recordOf, blank, recordAt, Below, WellFormed}
-use Rattle.majority.specs.Edit.{edges, redirectAll, insert, become}
+use Rattle.majority.specs.Table.{recordOf, blank, recordAt, WellFormed}
+use Rattle.majority.specs.Edit.{edges, redirectAll, insert}
 use Rattle.majority.specs.declared.Record.{Record}
-use Rattle.majority.specs.declared.Counts.{Counts}
-use Rattle.majority.proofs.Formed.{reads-lower, reads-nodes}
+use Rattle.majority.proofs.Formed.{reads-lower}
 use Rattle.majority.proofs.Keeping.{Each}
-use Rattle.majority.proofs.Raise.{raised-from, raise-below, raise-from}
+use Rattle.majority.proofs.Raise.{raised-from}
 use Rattle.majority.proofs.Insert.{insert-length, insert-old, insert-new, insert-below, raise-within}
-use Rattle.tables.specs.Bytes.{tableOf, putRecord}
-use Rattle.tables.specs.Worths.{tableIn}
-use Rattle.tables.proofs.Encoded.{Bytes}
-use Rattle.editing.specs.Edited.{holding, changedFrom, editedFrom, redirectedFrom, raise16, grown, insertedAt}
+use Rattle.editing.specs.Edited.{changedFrom, raise16, grown}
 use Rattle.editing.proofs.Changed.{map-at, changed-length, changed-low, changed-high, grown-length, grown-low, grown-here, grown-high}
-use Rattle.editing.proofs.Held.{Held, held-start, held-put, held-bytes, holding-held}
-use Rattle.rewriting.specs.Ready.{AtGate, Room}
-use Rattle.rewriting.proofs.Gate.{at-formed, at-length, at-small}
 
 -- the record with each of its edges changed alike
 same-edges : (f h : ℕ → ℕ) (r : Record) → Each (λ x. f x ≡ h x) r → edges f r ≡ edges h r

@@ -1,39 +1,49 @@
 -- What a rule knows of its gate and of the nodes that it names.
-use Prim.Native.Nat.{ℕ, suc, _+_, _-_, _*_, _/_, _≤_, _<_}
-use mathlib.Core.Path.{_≡_, refl, sym, ap, _∙_}
-use mathlib.Core.Bool.{Bool, true, false, not, _&&_}
+use Prim.Native.Nat.{ℕ, zero, suc, _+_, _-_, _*_, _/_, _≤_, _<_}
+use mathlib.Core.Path.{_≡_, refl, sym, ap, ap₂, _∙_}
+use mathlib.Core.Bool.{true, false, not}
 use mathlib.Core.List.{List}
 use native.Mathlib.Omega.{arith}
 use borrow.Author.Tests.{ltb-true, ne-eqb}
-use lib.Dec.{ltb, eqb}
+use lib.Dec.{ltb}
 use lib.ListN.{length}
 use Rattle.majority.specs.Edge.{nodeOf, isInverted}
-use Rattle.majority.specs.Table.{gate, recordAt, Below, WellFormed}
+use Rattle.majority.specs.Table.{gate, Below, WellFormed}
 use Rattle.majority.specs.Edit.{nodeRecord}
-use Rattle.majority.specs.Rules.{plainGate, named}
-use Rattle.majority.specs.Step.{fieldsFit}
+use Rattle.majority.specs.Rules.{plainGate, named, majorityForm, associativityForm, outwardForm, inwardForm, shareForm}
+use Rattle.majority.specs.Step.{badRule, fieldsFit, hasForm}
 use Rattle.majority.specs.declared.Record.{Record}
 use Rattle.majority.specs.declared.Counts.{Counts}
 use Rattle.majority.proofs.Logic.{both}
 use Rattle.majority.proofs.Formed.{reads-lower}
 use Rattle.majority.proofs.Gates.{GateOf}
-use Rattle.majority.proofs.Taken.{gate-field, share-field}
-use Rattle.tables.specs.Bytes.{tableOf}
+use Rattle.majority.proofs.Taken.{known-rule, gate-field, share-field}
 use Rattle.tables.specs.Worths.{Sound, tableIn}
 use Rattle.tables.proofs.Decoded.{length-table, table-at}
 use Rattle.tables.proofs.Worths.{sound-accepted, sound-record}
-use Rattle.rewriting.specs.Ready.{AtGate, ThirdGate, Inserting}
+use Rattle.changes.specs.Changes.{recordsOf}
+
+-- the buffer xs has an accepted table with these counts, of which node g is a gate
+pub record AtGate (xs : List ℕ) (c : Counts) (g : ℕ) : Type 0 where
+  pub sound : Sound xs c
+  pub from : c .inputs < g
+  pub upto : g ≤ c .inputs + c .gates
+
+-- there is room for k gates more
+abbrev pub Room : ℕ → List ℕ → Counts → Type 0
+Room k xs c = 8 * (c .inputs + c .gates + c .outputs + k) ≤ length xs
+
+-- both records are gates that read nodes below g
+abbrev pub Inserting : ℕ → Record → Record → Type 0
+Inserting g p q = (p .kind ≡ 2) × Below g p × (q .kind ≡ 2) × Below g q
 
 -- an uninverted gate is a node above the inputs
-pub plain-above : (n e : ℕ) → plainGate n e ≡ true → n < nodeOf e
+plain-above : (n e : ℕ) → plainGate n e ≡ true → n < nodeOf e
 plain-above n e h = ltb-true _ _ (both (not (isInverted e)) (ltb n (nodeOf e)) h .1)
 
-pub plain-some : (n e : ℕ) → plainGate n e ≡ true → 1 ≤ nodeOf e
-plain-some n e h = let l : n < nodeOf e = plain-above n e h in omega arith
-
 -- the record that the code reads for a node of the table
-pub node-at : {xs : List ℕ} {c : Counts} → Sound xs c → (k : ℕ) → 1 ≤ k → k ≤ c .inputs + c .gates → recordAt (tableOf xs (length xs / 8)) (k - 1) ≡ nodeRecord (tableIn xs c) k
-node-at {xs} {c} sound k p q =
+node-at : {xs : List ℕ} {c : Counts} → Sound xs c → (k : ℕ) → k ≤ c .inputs + c .gates → nodeRecord (recordsOf xs) k ≡ nodeRecord (tableIn xs c) k
+node-at {xs} {c} sound k h =
     let some = sound-accepted sound .limits .some in
     table-at xs (length xs / 8) (k - 1) (omega (arith, sound .fits)) ∙ sym (sound-record sound (k - 1) (omega arith))
 
@@ -42,14 +52,6 @@ pub at-gate : {xs : List ℕ} {c : Counts} → Sound xs c → (rule g a b : ℕ)
 at-gate {c = c} sound rule g a b fits other =
     let w = gate-field (c .inputs) (c .gates) rule g a b (ne-eqb rule 8 other) fits in
     record { sound = sound; from = w .0; upto = w .1 }
-
--- and for share a second one below it
-pub share-gate : {xs : List ℕ} {c : Counts} → Sound xs c → (rule g a b : ℕ) → fieldsFit (c .inputs) (c .gates) rule g a b ≡ true → rule ≡ 7
-    → (1 ≤ a) × (a ≤ c .inputs + c .gates) × (a < g)
-share-gate {c = c} sound rule g a b fits is =
-    let w = share-field (c .inputs) (c .gates) g a b (rw is at fits) in
-    let v = gate-field (c .inputs) (c .gates) 7 g a b refl (rw is at fits) in
-    (omega (arith, w .0), omega (arith, w .1, v .1), w .1)
 
 module _ {xs : List ℕ} {c : Counts} {g : ℕ} (at : AtGate xs c g) where
   abbrev table : List Record
@@ -69,21 +71,69 @@ module _ {xs : List ℕ} {c : Counts} {g : ℕ} (at : AtGate xs c g) where
   at-length = length-table xs _
 
   -- a node up to g reads lower nodes
-  pub reads-below : (k : ℕ) → 1 ≤ k → k ≤ g → Below k (nodeRecord table k)
+  reads-below : (k : ℕ) → 1 ≤ k → k ≤ g → Below k (nodeRecord table k)
   reads-below k p q = let e : suc (k - 1) ≡ k = omega arith in rw e at (reads-lower at-formed (k - 1) (omega (arith, at-length, at .upto, sound-accepted (at .sound) .limits .some)))
 
   pub gate-low : Below g (nodeRecord table g)
   gate-low = reads-below g (omega (arith, at .from)) (omega arith)
 
   -- a node that the gate names, if it is an uninverted gate
-  pub named-low : (e : ℕ) → nodeOf e < g → plainGate (c .inputs) e ≡ true → Below (nodeOf e) (named table e)
+  named-low : (e : ℕ) → nodeOf e < g → plainGate (c .inputs) e ≡ true → Below (nodeOf e) (named table e)
   named-low e l h = reads-below (nodeOf e) (omega (arith, plain-above (c .inputs) e h)) (omega arith)
 
   -- the gates that distributivity outward inserts
-  pub outward-gates : ThirdGate xs c g
+  pub outward-gates : plainGate (c .inputs) (nodeRecord table g .e3) ≡ true
       → Inserting g (gate (nodeRecord table g .e1) (nodeRecord table g .e2) (named table (nodeRecord table g .e3) .e1))
       (gate (nodeRecord table g .e1) (nodeRecord table g .e2) (named table (nodeRecord table g .e3) .e2))
   outward-gates h =
       let low = gate-low in
       let deep = named-low _ (low .third) h in
       (refl, record { first = low .first; second = low .second; third = omega (arith, low .third, deep .first) }, refl, record { first = low .first; second = low .second; third = omega (arith, low .third, deep .second) })
+
+  -- the records that the code reads for the gate, and for what an edge of it names
+  pub gate-at : nodeRecord (recordsOf xs) g ≡ nodeRecord table g
+  gate-at = node-at (at .sound) g (at .upto)
+
+  named-at : (edge : Record → ℕ) → nodeOf (edge (nodeRecord table g)) < g → named (recordsOf xs) (edge (nodeRecord (recordsOf xs) g)) ≡ named table (edge (nodeRecord table g))
+  named-at edge low =
+      ap (λ (r : Record). named (recordsOf xs) (edge r)) gate-at ∙ node-at (at .sound) (nodeOf (edge (nodeRecord table g))) (omega (arith, at .upto))
+
+  pub first-at : named (recordsOf xs) (nodeRecord (recordsOf xs) g .e1) ≡ named table (nodeRecord table g .e1)
+  first-at = named-at (λ r. r .e1) (gate-low .first)
+
+  pub second-at : named (recordsOf xs) (nodeRecord (recordsOf xs) g .e2) ≡ named table (nodeRecord table g .e2)
+  second-at = named-at (λ r. r .e2) (gate-low .second)
+
+  pub third-at : named (recordsOf xs) (nodeRecord (recordsOf xs) g .e3) ≡ named table (nodeRecord table g .e3)
+  third-at = named-at (λ r. r .e3) (gate-low .third)
+
+-- the form that the code sees is that of the table
+module _ {xs : List ℕ} {c : Counts} (sound : Sound xs c) (g a b : ℕ) where
+  abbrev FormAt : ℕ → Type 0
+  FormAt rule = hasForm (c .inputs) (recordsOf xs) rule g a ≡ hasForm (c .inputs) (tableIn xs c) rule g a
+
+  abbrev Fit : ℕ → Type 0
+  Fit rule = fieldsFit (c .inputs) (c .gates) rule g a b ≡ true
+
+  by-rule : (rule : ℕ) → rule ≤ 8 → Fit rule → FormAt rule
+  unfolding hasForm
+  by-rule zero high fields = refl
+  by-rule (suc zero) high fields = refl
+  by-rule (suc (suc zero)) high fields = ap majorityForm (gate-at (at-gate sound 2 g a b fields (λ e. omega arith)))
+  by-rule (suc (suc (suc zero))) high fields =
+      let at = at-gate sound 3 g a b fields (λ e. omega arith) in
+      ap₂ (associativityForm (c .inputs)) (gate-at at) (third-at at)
+  by-rule (suc (suc (suc (suc zero)))) high fields = ap (outwardForm (c .inputs)) (gate-at (at-gate sound 4 g a b fields (λ e. omega arith)))
+  by-rule (suc (suc (suc (suc (suc zero))))) high fields =
+      let at = at-gate sound 5 g a b fields (λ e. omega arith) in
+      λ d. inwardForm (c .inputs) (gate-at at d) (first-at at d) (second-at at d)
+  by-rule (suc (suc (suc (suc (suc (suc zero)))))) high fields = refl
+  by-rule (suc (suc (suc (suc (suc (suc (suc zero))))))) high fields =
+      let at = at-gate sound 7 g a b fields (λ e. omega arith) in
+      let low = share-field (c .inputs) (c .gates) g a b fields .1 in
+      ap₂ shareForm (gate-at at) (node-at sound a (omega (arith, at .upto)))
+  by-rule (suc (suc (suc (suc (suc (suc (suc (suc zero)))))))) high fields = refl
+  by-rule (suc (suc (suc (suc (suc (suc (suc (suc (suc rule))))))))) high fields = absurd (omega arith)
+
+  pub form-at : (rule : ℕ) → badRule rule ≡ false → Fit rule → FormAt rule
+  form-at rule known fields = by-rule rule (known-rule rule known .1) fields

@@ -1,16 +1,15 @@
 -- What the calls of a rule leave in the buffer: the table that the rule makes, and the rest as it was.
-use Prim.Native.Nat.{ℕ, zero, suc, _+_, _-_, _*_, _/_, _≤_, _<_}
+use Prim.Native.Nat.{ℕ, zero, suc, _+_, _-_, _*_, _/_, _%_, _≤_, _<_}
 use mathlib.Core.Path.{_≡_, refl, sym, ap, _∙_}
-use mathlib.Core.Bool.{true, false, _||_}
+use mathlib.Core.Bool.{true}
 use mathlib.Core.List.{List, [], _∷_}
 use native.Mathlib.Omega.{arith}
 use borrow.Author.Tests.{le-ltb, lt-leb}
-use lib.Dec.{ltb, leb}
 use lib.ListN.{length, set, length-set, length-map}
-use Rattle.majority.specs.If.{if_then_else_}
-use Rattle.majority.specs.Table.{Below, WellFormed}
 use Rattle.majority.specs.Edge.{redirect}
-use Rattle.majority.specs.Edit.{edges, redirectAll, insert, become}
+use Rattle.majority.specs.Table.{WellFormed}
+use Rattle.majority.specs.Edit.{edges, nodeRecord, redirectAll, insert, become}
+use Rattle.majority.specs.Rules.{plain, plainGate, exchange, majorityRule, associativity, outward, inward, inversion, share}
 use Rattle.majority.specs.declared.Record.{Record}
 use Rattle.majority.specs.declared.Counts.{Counts}
 use Rattle.majority.proofs.Insert.{insert-length}
@@ -19,9 +18,9 @@ use Rattle.tables.specs.Bytes.{tableOf, putRecord}
 use Rattle.tables.specs.Worths.{tableIn}
 use Rattle.tables.proofs.Encoded.{Bytes}
 use Rattle.editing.specs.Edited.{holding, editedFrom, redirectedFrom, grown, insertedAt}
-use Rattle.editing.proofs.Held.{Held, held-start, held-put, held-bytes, held-table, held-over, holding-held, holding-length}
-use Rattle.rewriting.specs.Ready.{AtGate, Room, Inserting}
-use Rattle.rewriting.proofs.Gate.{at-formed, at-length, at-small, at-is}
+use Rattle.editing.proofs.Held.{Held, held-start, held-put, held-bytes, held-table, held-over, holding-held}
+use Rattle.changes.specs.Changes.{plain16, next16, exchangedIn, majorityIn, associativityIn, insertedTwo, outwardIn, inwardIn, inversionIn, shareIn}
+use Rattle.rewriting.proofs.Gate.{AtGate, Room, Inserting, at-formed, at-length, at-small, at-is, outward-gates, gate-at, first-at, second-at, third-at}
 use Rattle.rewriting.proofs.Edits.{redirect-edit, insert-edit}
 use Rattle.rewriting.proofs.Twice.{insert-twice}
 
@@ -113,12 +112,23 @@ module _ {xs : List ℕ} {c : Counts} {g : ℕ} (at : AtGate xs c g) where
         let read : tableOf ys (records + 1) ≡ one = ap (tableOf ys) (sym len) ∙ held-table one (omega arith) held in
         rw (le-ltb (g + 1) 1 some, lt-leb (length ys / 8) (records + 1) space, le-ltb (records + 1) (g + 1 - 1) inside, read, grown-twice)
 
-    pub two-holding : {ys zs : List ℕ} → ys ≡ insertedAt xs records g p → zs ≡ insertedAt ys (records + 1) (g + 1) q → Bytes zs → zs ≡ holding (insert g (p ∷ q ∷ []) table) xs
-    two-holding {ys} {zs} first next bytes =
-        let held : Held xs one ys = rw first (inserted-held p one-room) in
+    two-held : Held xs (insert g (p ∷ q ∷ []) table) (insertedTwo xs records g p q)
+    unfolding insertedTwo next16
+    two-held =
+        let held = inserted-held p one-room in
         let len = inserted-length p one-room in
-        held-bytes (insert g (p ∷ q ∷ []) table) (omega (arith, two-length)) bytes
-        (rw (next ∙ second ys held) (held-over one (insert g (p ∷ q ∷ []) table) (omega (arith, two-length)) (omega (arith, two-length)) held))
+        let space : records < length xs / 8 = omega arith in
+        let next : (g + 1) % 65536 ≡ g + 1 = omega (arith, at .upto, at-small at) in
+        rw (lt-leb (length xs / 8) records space, next, second _ held)
+        (held-over one (insert g (p ∷ q ∷ []) table) (omega (arith, two-length)) (omega (arith, two-length)) held)
+
+    -- and g becomes another
+    two-then-put : {zs : List ℕ} (r : Record) → zs ≡ putRecord (insertedTwo xs records g p q) (g + 1) r → Bytes zs → zs ≡ holding (become (g + 2) r (insert g (p ∷ q ∷ []) table)) xs
+    two-then-put r put bytes =
+        let same : g + 1 ≡ g + 2 - 1 = omega arith in
+        then-put (insert g (p ∷ q ∷ []) table) (g + 2) r (omega (arith, two-length)) (omega arith) (omega (arith, at .upto, two-length)) two-held
+        (put ∙ ap (λ (k : ℕ). putRecord (insertedTwo xs records g p q) k r) same)
+        bytes
 
   -- a gate comes before g, and g becomes another
   pub insert-then-put : {ys zs : List ℕ} (new r : Record) → Room 1 xs c → ys ≡ insertedAt xs records g new → zs ≡ putRecord ys g r → Bytes zs
@@ -127,19 +137,6 @@ module _ {xs : List ℕ} {c : Counts} {g : ℕ} (at : AtGate xs c g) where
       let len = inserted-length new room in
       let same : g ≡ g + 1 - 1 = omega arith in
       then-put (insert g (new ∷ []) table) (g + 1) r (omega arith) (omega arith) (omega (arith, at .upto)) (rw first (inserted-held new room))
-      (put ∙ ap (λ (k : ℕ). putRecord ys k r) same)
-      bytes
-
-  -- two come before it
-  pub two-then-put : {ys zs : List ℕ} (p q r : Record) → Room 2 xs c → ys ≡ holding (insert g (p ∷ q ∷ []) table) xs → zs ≡ putRecord ys (g + 1) r → Bytes zs
-      → zs ≡ holding (become (g + 2) r (insert g (p ∷ q ∷ []) table)) xs
-  two-then-put {ys} p q r room first put bytes =
-      let len : length (insert g (p ∷ q ∷ []) table) ≡ records + 2 =
-      insert-length g (p ∷ q ∷ []) table (omega (arith, at .from)) (omega (arith, at .upto, at-length at)) ∙ ap (λ (k : ℕ). k + 2) (at-length at)
-      in
-      let same : g + 1 ≡ g + 2 - 1 = omega arith in
-      then-put (insert g (p ∷ q ∷ []) table) (g + 2) r (omega arith) (omega arith) (omega (arith, at .upto))
-      (rw first (holding-held (insert g (p ∷ q ∷ []) table) xs (omega arith)))
       (put ∙ ap (λ (k : ℕ). putRecord ys k r) same)
       bytes
 
@@ -153,3 +150,43 @@ module _ {xs : List ℕ} {c : Counts} {g : ℕ} (at : AtGate xs c g) where
       (rw (first ∙ redirect-holding e) (holding-held (redirectAll g e table) xs (omega (arith, table-fits))))
       put
       bytes
+
+  -- edges of 16 bits are what they should be
+  small-plain : (k : ℕ) → k ≤ g + 1 → plain16 k ≡ plain k
+  unfolding plain16
+  small-plain k h = omega (arith, at .upto, at-small at)
+
+  small-next : next16 g ≡ g + 1
+  unfolding next16
+  small-next = omega (arith, at .upto, at-small at)
+
+  -- what each rule's edit leaves
+  module _ {ys : List ℕ} (bytes : Bytes ys) where
+    pub exchange-held : (a : ℕ) → ys ≡ exchangedIn xs g a → ys ≡ holding (exchange a g table) xs
+    unfolding exchangedIn exchange
+    exchange-held a e = put-holding _ (rw (gate-at at) at e) bytes
+
+    pub majority-held : ys ≡ majorityIn xs records g → ys ≡ holding (majorityRule g table) xs
+    unfolding majorityIn majorityRule
+    majority-held e = rw (gate-at at) at e ∙ redirect-holding _
+
+    pub associativity-held : Room 1 xs c → ys ≡ associativityIn xs records g → ys ≡ holding (associativity g table) xs
+    unfolding associativityIn associativity
+    associativity-held room e = insert-then-put _ _ room refl (rw (third-at at, gate-at at, small-plain g (omega arith)) at e) bytes
+
+    pub outward-held : plainGate (c .inputs) (nodeRecord table g .e3) ≡ true → Room 2 xs c → ys ≡ outwardIn xs records g → ys ≡ holding (outward g table) xs
+    unfolding outwardIn outward
+    outward-held form room e =
+        two-then-put _ _ room (outward-gates at form) _ (rw (third-at at, gate-at at, small-next, small-plain g (omega arith), small-plain (g + 1) (omega arith)) at e) bytes
+
+    pub inward-held : Room 1 xs c → ys ≡ inwardIn xs records g → ys ≡ holding (inward g table) xs
+    unfolding inwardIn inward
+    inward-held room e = insert-then-put _ _ room refl (rw (first-at at, second-at at, gate-at at, small-plain g (omega arith)) at e) bytes
+
+    pub inversion-held : ys ≡ inversionIn xs records g → ys ≡ holding (inversion g table) xs
+    unfolding inversionIn inversion
+    inversion-held e = redirect-then-put _ _ refl (rw (gate-at at, small-plain g (omega arith)) at e) bytes
+
+    pub share-held : (a : ℕ) → a < g → ys ≡ shareIn xs records g a → ys ≡ holding (share a g table) xs
+    unfolding shareIn share
+    share-held a low e = rw (small-plain a (omega arith)) at e ∙ redirect-holding (plain a)

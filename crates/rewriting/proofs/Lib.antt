@@ -1,18 +1,18 @@
-pub mod Gate
-pub mod Edits
-pub mod Twice
-pub mod Holding
-pub mod Marks
-pub mod Numbers
-pub mod Behind
-pub mod Closing
-pub mod Moving
-pub mod Swept
-pub mod Storing
-pub mod Fits
-pub mod Taking
-pub mod Replies
-pub mod Onward
-pub mod Turns
-pub mod Scripts
+mod Gate
+mod Edits
+mod Twice
+mod Holding
+mod Marks
+mod Numbers
+mod Behind
+mod Closing
+mod Moving
+mod Swept
+mod Storing
+mod Fits
+mod Taking
+mod Replies
+mod Onward
+mod Turns
+mod Scripts
 pub mod SaidOnce

@@ -62,12 +62,12 @@ module _ {xs : List ℕ} {c : Counts} {rule g a b : ℕ} (fit : Fitting xs c rul
   fit-length = step-kept formed (length xs) rule g a b after fit-step .formed .whole
 
   -- by a rule other than sweep
-  pub rewritten-held : {ys : List ℕ} (t : List Record) (r : ℕ) → (rule ≡ 8 → ⊥) → after ≡ t → r ≡ c .gates + inserted rule → ys ≡ holding t xs → Rewritten xs c rule g a r ys
-  rewritten-held t r other is gates held =
+  pub rewritten-held : {ys : List ℕ} (r : ℕ) → (rule ≡ 8 → ⊥) → r ≡ c .gates + inserted rule → ys ≡ holding after xs → Rewritten xs c rule g a r ys
+  rewritten-held r other gates held =
       let more : count 2 after ≡ c .gates + inserted rule = fit-count ∙ rw (ne-eqb rule 8 other) in
       record {
         gates = gates ∙ sym more;
-        bytes = held ∙ ap (λ (u : List Record). holding u xs) (sym is) ∙ sym (stored-long after (usedBy c) xs (omega (arith, fit-length)));
+        bytes = held ∙ sym (stored-long after (usedBy c) xs (omega (arith, fit-length)));
       }
 
   -- by sweep

@@ -9,6 +9,7 @@ use lib.Seq.{drop-cons}
 use Rattle.majority.specs.Table.{blank, recordAt}
 use Rattle.majority.specs.Check.{Reply, accepted, refused, andThen}
 use Rattle.majority.specs.declared.Record.{Record}
+use Rattle.tables.specs.declared.Refusal.{Refusal}
 use Rattle.tables.proofs.Decoded.{length-table}
 use Rattle.rewriting.specs.Applied.{afterReply}
 use Rattle.rewriting.specs.Calls.{stepTable, stepOf, stepBytes, saidStep}
@@ -44,10 +45,13 @@ module _ (xs : List ℕ) (p p′ : Progress) (r : Record) (rs : List Record) whe
       absurd (omega arith)
 
   -- a turn that stops
-  pub turn-off : (o : Stepped) → p′ ≡ progressAfter p o → saidStep o ≡ replyTo xs (p .used) r → (p′ .ending ≡ Finished → ⊥)
+  pub turn-off : (o : Stepped) → p′ ≡ progressAfter p o → saidStep o ≡ replyTo xs (p .used) r → {refusal : Refusal} → p′ .ending ≡ Stopped refusal
       → runOf p′ (bytesAfter xs (p .used) r) ≡ runFrom (p .taken) xs (p .used) (r ∷ rs)
   unfolding runFrom
-  turn-off (Used n) e said shut = absurd (shut (rw e))
+  turn-off (Used n) e said {refusal} shut =
+      let going : Finished ≡ Stopped refusal = ap (λ (q : Progress). q .ending) (sym e) ∙ shut in
+      let z : _≡_ {A = ℕ} 0 1 = cc in
+      absurd (omega arith)
   turn-off (Refused x) e said shut =
       let still = refused-bytes xs (p .used) (r .kind) (r .e1) (r .e2) (r .e3) _ _ (sym said) in
       rw (e, still, ← said)

@@ -1,24 +1,12 @@
 // One step on a table that was checked.
 use crate::Applied;
 use crate::Stepped;
-use crate::changing::associativity;
-use crate::changing::exchange;
-use crate::changing::inversion;
-use crate::changing::inward;
-use crate::changing::majority_rule;
-use crate::changing::outward;
-use crate::changing::share;
-use crate::forms::has_form;
 use crate::sweeping::sweep;
+use changes::edit;
+use changes::has_form;
 use majority::Counts;
 use majority::MOST_GATES;
-use rules::ASSOCIATIVITY;
-use rules::EXCHANGE;
-use rules::INVERSION;
-use rules::INWARD;
-use rules::MAJORITY;
-use rules::OUTWARD;
-use rules::SHARE;
+use rules::SWEEP;
 use rules::bad_rule;
 use rules::fields_fit;
 use rules::inserted;
@@ -34,35 +22,17 @@ fn rewrite(s: &mut [u8], counts: Counts, rule: u16, gate: u16, a: u16, b: u16) -
     requires { ⌜ Fitting (now s) counts rule gate a b ⌝ }
     ensures { λ r. ⌜ Rewritten (now (s .entry)) counts rule gate a r (now (s .exit)) ⌝ }
 {
-    if rule == EXCHANGE {
-        exchange(s, counts, gate, a);
-        return counts.gates;
+    if rule == SWEEP {
+        return sweep(s, counts);
     }
-    if rule == MAJORITY {
-        majority_rule(s, counts, gate);
-        return counts.gates;
-    }
-    if rule == ASSOCIATIVITY {
-        associativity(s, counts, gate);
-        return counts.gates + 1;
-    }
-    if rule == OUTWARD {
-        outward(s, counts, gate);
-        return counts.gates + 2;
-    }
-    if rule == INWARD {
-        inward(s, counts, gate);
-        return counts.gates + 1;
-    }
-    if rule == INVERSION {
-        inversion(s, counts, gate);
-        return counts.gates;
-    }
-    if rule == SHARE {
-        share(s, counts, gate, a);
-        return counts.gates;
-    }
-    sweep(s, counts)
+    edit(
+        s,
+        counts.inputs + counts.gates + counts.outputs,
+        rule,
+        gate,
+        a,
+    );
+    counts.gates + inserted(rule)
 }
 
 // Applies one step: refusals 7 to 11 in their order, or the rule's edit.
@@ -76,7 +46,7 @@ fn apply(s: &mut [u8], counts: Counts, rule: u16, gate: u16, a: u16, b: u16) -> 
     if !fields_fit(counts, rule, gate, a, b) {
         return Applied::Refused(Refusal::Field);
     }
-    if !has_form(s, counts, rule, gate, a, b) {
+    if !has_form(s, counts.inputs, rule, gate, a) {
         return Applied::Refused(Refusal::Form);
     }
     let more = inserted(rule);

@@ -1,7 +1,5 @@
 // Steps and scripts on a table in a lent slice.
 mod applying;
-mod changing;
-mod forms;
 mod running;
 mod sweeping;
 

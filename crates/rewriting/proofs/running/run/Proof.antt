@@ -109,7 +109,7 @@ returns-2 c = let l = c .before .before .before .before .before .before .before 
     let said = c .before .before .before .before .before .take .ensures .0 ∙ ap (λ (u : ℕ). replyTo (l .loop .s) u r) same in
     let bytes = c .before .before .before .before .before .take .ensures .1 ∙ ap (λ (u : ℕ). bytesAfter (l .loop .s) u r) same in
     let front = step-next (a .steps .now) (l .loop .i) (c .before .before .before .before .before .before .before .before .before .if1 .left) ∙ ap (λ (q : Record). q ∷ drop (l .loop .i + 1) steps) (sym (c .before .before .before .before .before .before .before .before .record-at .ensures)) in
-    let stop = turn-off (l .loop .s) p (c .before .before .after .result) r (drop (l .loop .i + 1) steps) (c .before .before .before .before .before .take .result) (c .before .before .after .ensures) said (λ e. let z : _≡_ {A = ℕ} 0 1 = cc (c .enum-told2 .given .1, e) in omega arith) in
+    let stop = turn-off (l .loop .s) p (c .before .before .after .result) r (drop (l .loop .i + 1) steps) (c .before .before .before .before .before .take .result) (c .before .before .after .ensures) said (c .enum-told2 .given .1) in
     ap (runOf (c .before .before .after .result)) bytes ∙ stop ∙ sym (l .loop .inv .5 ∙ ap (runFrom (p .taken) (l .loop .s) (p .used)) front)
 
 pub run-spec : {M : Type 1} → statement M

@@ -13,7 +13,7 @@ renumbered-requires-3 : tie.Need-renumbered-requires-3
 renumbered-requires-3 c κs = search needs
 
 returns : tie.Need-returns
-returns c = cc
+returns c = rw (c .before .before .renumbered .ensures, c .before .renumbered2 .ensures, c .renumbered3 .ensures)
 
 pub renumbered-record-spec : {M : Type 1} → statement M
 renumbered-record-spec =

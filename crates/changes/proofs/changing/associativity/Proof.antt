@@ -1,0 +1,48 @@
+-- `changing::associativity` meets its contract: a gate is inserted, and the one above it becomes another.
+use borrow.Author.Needs.{needs}
+use mathlib.Core.Path.{_∙_}
+use Rattle.changes.specs.Changes.{associativityIn}
+use Rattle.changes.proofs.changing.associativity.Statement.{statement}
+use Rattle.changes.proofs.changing.associativity.Tie as tie
+
+node-record-requires : tie.Need-node-record-requires
+node-record-requires c κs = search needs
+
+named-record-requires : tie.Need-named-record-requires
+named-record-requires c κs = search needs
+
+associativity-new-requires : tie.Need-associativity-new-requires
+associativity-new-requires c κs = search needs
+
+insert-requires : tie.Need-insert-requires
+insert-requires c κs = search needs
+
+plain-requires : tie.Need-plain-requires
+plain-requires c κs = search needs
+
+associativity-gate-requires : tie.Need-associativity-gate-requires
+associativity-gate-requires c κs = search needs
+
+put-record-requires : tie.Need-put-record-requires
+put-record-requires c κs = search needs
+
+same-length : tie.Need-same-length
+same-length c = search needs
+
+returns : tie.Need-returns
+unfolding associativityIn
+returns c = c .before .before .put-record .ensures ∙ rw (c .before .before .before .before .before .before .before .before .insert .ensures, c .before .before .before .before .before .before .before .before .before .associativity-new .ensures, c .before .before .before .associativity-gate .ensures, c .before .before .before .before .plain .ensures, c .before .before .before .before .before .before .before .before .before .before .before .named-record .ensures, c .before .before .before .before .before .before .before .before .before .before .before .before .before .node-record .ensures)
+
+pub associativity-spec : {M : Type 1} → statement M
+associativity-spec =
+    tie.close
+    (tie.spec
+    node-record-requires
+    named-record-requires
+    associativity-new-requires
+    insert-requires
+    plain-requires
+    associativity-gate-requires
+    put-record-requires
+    same-length
+    returns)

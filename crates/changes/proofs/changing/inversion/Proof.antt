@@ -1,0 +1,48 @@
+-- `changing::inversion` meets its contract: the gate is redirected to its own inverse, and becomes the inverted one.
+use borrow.Author.Needs.{needs}
+use mathlib.Core.Path.{_∙_}
+use Rattle.changes.specs.Changes.{inversionIn}
+use Rattle.changes.proofs.changing.inversion.Statement.{statement}
+use Rattle.changes.proofs.changing.inversion.Tie as tie
+
+node-record-requires : tie.Need-node-record-requires
+node-record-requires c κs = search needs
+
+plain-requires : tie.Need-plain-requires
+plain-requires c κs = search needs
+
+flipped-requires : tie.Need-flipped-requires
+flipped-requires c κs = search needs
+
+redirect-requires : tie.Need-redirect-requires
+redirect-requires c κs = search needs
+
+place-requires : tie.Need-place-requires
+place-requires c κs = search needs
+
+inverted-gate-requires : tie.Need-inverted-gate-requires
+inverted-gate-requires c κs = search needs
+
+put-record-requires : tie.Need-put-record-requires
+put-record-requires c κs = search needs
+
+same-length : tie.Need-same-length
+same-length c = search needs
+
+returns : tie.Need-returns
+unfolding inversionIn
+returns c = c .before .before .put-record .ensures ∙ rw (c .before .before .before .before .before .before .before .before .redirect .ensures, c .before .before .before .before .before .before .before .before .before .flipped .ensures, c .before .before .before .before .before .before .before .before .before .before .plain .ensures, c .before .before .before .before .place .ensures, c .before .before .before .inverted-gate .ensures, c .before .before .before .before .before .before .before .before .before .before .before .before .node-record .ensures)
+
+pub inversion-spec : {M : Type 1} → statement M
+inversion-spec =
+    tie.close
+    (tie.spec
+    node-record-requires
+    plain-requires
+    flipped-requires
+    redirect-requires
+    place-requires
+    inverted-gate-requires
+    put-record-requires
+    same-length
+    returns)
