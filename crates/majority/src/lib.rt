@@ -1,5 +1,6 @@
 // What a table means: its record and its edges, by value. The definitions that the contracts cite are in specs/.
 ghost use mathlib.Core.Path.{_≡_};
+ghost use Prim.Native.Nat.{max};
 ghost use Rattle.majority.specs.Edge.{nodeOf, isInverted, flip, redirect};
 ghost use Rattle.majority.specs.Value.{majorityOf};
 
@@ -72,4 +73,11 @@ pub fn majority(a: bool, b: bool, c: bool) -> bool
     ensures { λ r. ⌜ r ≡ majorityOf a b c ⌝ }
 {
     (a & b) | (a & c) | (b & c)
+}
+
+// The higher of two levels.
+pub fn higher(a: u16, b: u16) -> u16
+    ensures { λ r. ⌜ r ≡ max a b ⌝ }
+{
+    if a < b { b } else { a }
 }

@@ -8,13 +8,13 @@ use input::Start;
 use input::Word;
 use libc::STDOUT_FILENO;
 use majority::Counts;
+use questions::Reported;
+use questions::Valued;
 use reply::Reply;
 use rewriting::Ending;
 use rewriting::Stepped;
 use rm3::Translated;
 use tables::Checked;
-use tables::Reported;
-use tables::Valued;
 use text::Line;
 
 // The most bytes that a part may have.
@@ -72,7 +72,7 @@ fn evaluate(table: &[u8], used: usize) -> Outcome {
     let Word::Number(assignment) = input::read_number() else {
         return Outcome::Cut;
     };
-    valued(tables::evaluate(table, used, assignment))
+    valued(questions::evaluate(table, used, assignment))
 }
 
 // Size and depth.
@@ -85,7 +85,7 @@ fn reported(answer: Reported) -> Outcome {
 
 // Operation 3: size and depth.
 fn report(table: &[u8], used: usize) -> Outcome {
-    reported(tables::report(table, used))
+    reported(questions::report(table, used))
 }
 
 // The two 16-bit numbers of a 32-bit one.

@@ -1,6 +1,6 @@
 // Reports on the table on standard input: prints its size and its depth, or the refusal that it meets.
-use tables::Reported;
-use tables::Size;
+use questions::Reported;
+use questions::Size;
 use text::Input;
 use text::Line;
 
@@ -16,7 +16,7 @@ fn print_size(s: Size) {
 
 // Reports on the first used bytes, which are the table.
 fn answer(table: &[u8; text::ROOM], used: usize) {
-    match tables::report(table, used) {
+    match questions::report(table, used) {
         Reported::Whole(s) => print_size(s),
         Reported::Refused(r) => text::print_refusal(r),
     }

@@ -1,13 +1,13 @@
 // Works out the outputs of the table on standard input under the assignment that its argument gives: prints the outputs' number,
 // or the refusal that the table or the assignment meets.
-use tables::Valued;
+use questions::Valued;
 use text::Decimal;
 use text::Input;
 use text::Line;
 
 // Works out the outputs of the first used bytes, which are the table.
 fn answer(table: &[u8; text::ROOM], used: usize, assignment: u32) {
-    match tables::evaluate(table, used, assignment) {
+    match questions::evaluate(table, used, assignment) {
         Valued::Outputs(v) => {
             Line::empty().word(b"outputs ").number(v as u64).print();
         }

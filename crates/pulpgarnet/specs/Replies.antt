@@ -2,7 +2,7 @@
 use Prim.Native.Nat.{ℕ}
 use Rattle.majority.specs.Check.{Reply, accepted, refused}
 use Rattle.majority.specs.declared.Counts.{Counts}
-use Rattle.tables.specs.declared.Size.{Size}
+use Rattle.questions.specs.declared.Size.{Size}
 use Rattle.rewriting.specs.Script.{End, finished, stopped, Run}
 use Rattle.pulpgarnet.specs.declared.Checked.{Checked}
 use Rattle.pulpgarnet.specs.declared.Valued.{Valued}

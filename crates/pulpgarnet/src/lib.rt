@@ -4,9 +4,10 @@ use tables::refusal_number;
 use tables::refusal_record;
 ghost use mathlib.Core.Path.{_≡_};
 ghost use lib.ListN.{length};
-ghost use Rattle.tables.specs.Said.{saidValue, saidReport};
-ghost use Rattle.tables.specs.Calls.{checkOf, evaluateOf, reportOf};
-ghost use Rattle.tables.specs.Claimed.{claimedEvaluate, claimedReport};
+ghost use Rattle.tables.specs.Calls.{checkOf};
+ghost use Rattle.questions.specs.Said.{saidValue, saidReport};
+ghost use Rattle.questions.specs.Calls.{evaluateOf, reportOf};
+ghost use Rattle.questions.specs.Claimed.{claimedEvaluate, claimedReport};
 ghost use Rattle.reading.specs.Held.{claim};
 ghost use Rattle.rewriting.specs.Calls.{stepOf, stepBytes};
 ghost use Rattle.rewriting.specs.Script.{scriptRun};
@@ -90,16 +91,16 @@ pub extern "C" fn pulpgarnet_check(table: &[u8], used: usize) -> Checked
     }
 }
 
-fn value_reply(answer: tables::Valued) -> Valued
+fn value_reply(answer: questions::Valued) -> Valued
     ensures { λ r. ⌜ r ≡ valuedReply (saidValue answer) ⌝ }
 {
     match answer {
-        tables::Valued::Outputs(outputs) => Valued {
+        questions::Valued::Outputs(outputs) => Valued {
             refusal: 0,
             at: 0,
             outputs,
         },
-        tables::Valued::Refused(refusal) => Valued {
+        questions::Valued::Refused(refusal) => Valued {
             refusal: refusal_number(refusal),
             at: refusal_record(refusal),
             outputs: 0,
@@ -112,20 +113,20 @@ fn value_reply(answer: tables::Valued) -> Valued
 pub extern "C" fn pulpgarnet_evaluate(table: &[u8], used: usize, assignment: u32) -> Valued
     ensures { λ r. ⌜ r ≡ valuedReply (evaluateOf (now (table .entry)) used assignment) ⌝ }
 {
-    value_reply(tables::evaluate(table, used, assignment))
+    value_reply(questions::evaluate(table, used, assignment))
 }
 
-fn report_reply(answer: tables::Reported) -> Reported
+fn report_reply(answer: questions::Reported) -> Reported
     ensures { λ r. ⌜ r ≡ reportedReply (saidReport answer) ⌝ }
 {
     match answer {
-        tables::Reported::Whole(size) => Reported {
+        questions::Reported::Whole(size) => Reported {
             refusal: 0,
             at: 0,
             size: size.gates,
             depth: size.depth,
         },
-        tables::Reported::Refused(refusal) => Reported {
+        questions::Reported::Refused(refusal) => Reported {
             refusal: refusal_number(refusal),
             at: refusal_record(refusal),
             size: 0,
@@ -139,7 +140,7 @@ fn report_reply(answer: tables::Reported) -> Reported
 pub extern "C" fn pulpgarnet_report(table: &[u8], used: usize) -> Reported
     ensures { λ r. ⌜ r ≡ reportedReply (reportOf (now (table .entry)) used) ⌝ }
 {
-    report_reply(tables::report(table, used))
+    report_reply(questions::report(table, used))
 }
 
 // One step: the new used length.

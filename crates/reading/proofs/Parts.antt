@@ -12,11 +12,13 @@ use Rattle.majority.specs.Check.{Reply, accepted, refused, andThen, count}
 use Rattle.majority.specs.declared.Record.{Record}
 use Rattle.majority.specs.declared.Counts.{Counts}
 use Rattle.tables.specs.Bytes.{decode, tableOf}
-use Rattle.tables.specs.Calls.{checkOf, evaluateOf, reportOf, valueOf, sizeOf}
-use Rattle.tables.specs.Claimed.{checkKinds, checkCounted, checkClaimed, claimedCheck, claimedEvaluate, claimedReport}
+use Rattle.tables.specs.Calls.{checkOf}
+use Rattle.tables.specs.Claimed.{checkKinds, checkCounted, checkClaimed, claimedCheck}
 use Rattle.tables.proofs.Decoded.{table-take}
 use Rattle.tables.proofs.Encoded.{accepted-records}
 use Rattle.tables.proofs.Claims.{accepted-claimed}
+use Rattle.questions.specs.Calls.{evaluateOf, reportOf, valueOf, sizeOf}
+use Rattle.questions.specs.Claimed.{claimedEvaluate, claimedReport}
 use Rattle.reading.specs.Held.{claim, found, foundIn, partIn, countsIn, orThree, readCheck, readEvaluate, readReport}
 
 -- no records and no counts: 3

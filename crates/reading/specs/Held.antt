@@ -5,8 +5,9 @@ use lib.ListN.{take}
 use Rattle.majority.specs.Check.{Reply, accepted, refused, andThen}
 use Rattle.majority.specs.declared.Counts.{Counts}
 use Rattle.tables.specs.Bytes.{tableOf}
-use Rattle.tables.specs.Calls.{checkOf, valueOf, sizeOf}
-use Rattle.tables.specs.declared.Size.{Size}
+use Rattle.tables.specs.Calls.{checkOf}
+use Rattle.questions.specs.Calls.{valueOf, sizeOf}
+use Rattle.questions.specs.declared.Size.{Size}
 use Rattle.reading.specs.declared.Found.{Found}
 use Rattle.reading.specs.declared.Reading.{Reading}
 

@@ -1,17 +1,19 @@
 // A reading: lent records with their three counts, and the questions that it answers.
 use majority::Counts;
+use questions::Reported;
+use questions::Valued;
+use questions::evaluate_as;
+use questions::report_as;
 use rm3::Translated;
 use rm3::translate_as;
 use tables::Checked;
-use tables::Reported;
-use tables::Valued;
 use tables::check_as;
-use tables::evaluate_as;
-use tables::report_as;
 ghost use mathlib.Core.Path.{_≡_};
 ghost use lib.ListN.{length, take};
-ghost use Rattle.tables.specs.Said.{saidCheck, saidValue, saidReport};
-ghost use Rattle.tables.specs.Claimed.{claimedCheck, claimedEvaluate, claimedReport};
+ghost use Rattle.tables.specs.Said.{saidCheck};
+ghost use Rattle.tables.specs.Claimed.{claimedCheck};
+ghost use Rattle.questions.specs.Said.{saidValue, saidReport};
+ghost use Rattle.questions.specs.Claimed.{claimedEvaluate, claimedReport};
 ghost use Rattle.rm3.specs.Said.{saidTranslate};
 ghost use Rattle.rm3.specs.Claimed.{claimedTranslate, claimedBytes};
 ghost use Rattle.reading.specs.Held.{claim, claimed, foundIn, partIn, countsIn, readCheck, readEvaluate, readReport};

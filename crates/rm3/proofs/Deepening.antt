@@ -18,10 +18,9 @@ use Rattle.majority.proofs.Rm3Formed.{translated, translated-formed}
 use Rattle.majority.proofs.Rm3Operands.{node-operands}
 use Rattle.majority.proofs.Rm3Levels.{level3-at-most}
 use Rattle.tables.specs.Worths.{Sound, tableIn}
-use Rattle.tables.proofs.Worths.{sound-accepted}
+use Rattle.tables.proofs.Worths.{sound-accepted, sound-formed}
 use Rattle.rm3.specs.Turned.{Named}
 use Rattle.rm3.specs.Levelled.{outputDepth, Levelled}
-use Rattle.rm3.proofs.Reading.{sound-table}
 use Rattle.rm3.proofs.Turning.{turned-end, turned-operands, named-more, named-table, named-end, begins-whole}
 use Rattle.rm3.proofs.PlaceLevels.{place-level, place-deep}
 use Rattle.rm3.proofs.Levelling.{turned-constant}
@@ -48,14 +47,14 @@ module _ {bytes : List ℕ} {c : Counts} (sound : Sound bytes c) where
     table = levelled .table;
     outputs = [];
     late = levelled .late;
-    named = turned-end (sound-table sound) (levelled .turned);
+    named = turned-end (sound-formed sound) (levelled .turned);
     deep = levelled .deep;
   }
 
   -- a helper's level is small
   pub helper-small : {gates : ℕ} {ls : List ℕ} → Levelled c rs (c .inputs + c .gates) gates ls → (k : ℕ) → k ≤ c .inputs + c .gates → getD ls k 0 + 1 ≤ 4000
   helper-small levelled k h =
-      let formed = sound-table sound in
+      let formed = sound-formed sound in
       let limits = sound-accepted sound .limits in
       let same = turned-operands formed (levelled .turned) .same k (omega (arith, levelled .turned .count)) in
       let low = translated formed .low k h in
@@ -67,7 +66,7 @@ module _ {bytes : List ℕ} {c : Counts} (sound : Sound bytes c) where
   pub deepened-more : {gates : ℕ} {ls : List ℕ} {j d : ℕ} (e d′ : ℕ) → e ≡ recordAt rs (c .inputs + c .gates + j) .e1 → nodeOf e ≤ c .inputs + c .gates → j < c .outputs → d′ ≡ outputDepth ls e d
       → Deepened c rs gates ls j d → Deepened c rs gates ls (j + 1) d′
   deepened-more {gates} {ls} {j} {d} e d′ is low h ed so =
-      let formed = sound-table sound in
+      let formed = sound-formed sound in
       let levelled = so .levelled in
       let operands = levelled .operands in
       let one : j + 1 ≡ suc j = omega arith in
@@ -93,4 +92,4 @@ module _ {bytes : List ℕ} {c : Counts} (sound : Sound bytes c) where
   unfolding depth3 operations
   deepened-end so =
       so .deep
-      ∙ ap (λ (parts : Outputs3). highest f (c .inputs + 2) (length (parts .table) - c .inputs)) (sym (named-end (sound-table sound) (so .named)))
+      ∙ ap (λ (parts : Outputs3). highest f (c .inputs + 2) (length (parts .table) - c .inputs)) (sym (named-end (sound-formed sound) (so .named)))

@@ -11,18 +11,17 @@ use Rattle.majority.specs.declared.Counts.{Counts}
 use Rattle.majority.proofs.Rm3Formed.{translated-formed}
 use Rattle.majority.proofs.Rm3Size.{translated-size}
 use Rattle.tables.specs.Worths.{Sound, tableIn}
-use Rattle.tables.proofs.Worths.{sound-accepted}
+use Rattle.tables.proofs.Worths.{sound-accepted, sound-formed}
 use Rattle.rm3.specs.Calls.{rm3In}
 use Rattle.rm3.specs.Laid.{operandsIn}
-use Rattle.rm3.proofs.Reading.{sound-table}
 
 module _ {xs : List ℕ} {c : Counts} (sound : Sound xs c) where
   -- its number of records, of which a table has 3,168 at most
   pub fitting-size : length (translation (c .inputs) (c .gates) (tableIn xs c)) ≡ operandsIn (tableIn xs c) c + c .outputs
-  fitting-size = translated-formed (sound-table sound) .whole
+  fitting-size = translated-formed (sound-formed sound) .whole
 
   pub fitting-small : operandsIn (tableIn xs c) c + c .outputs ≤ 3168
-  fitting-small = let limits = sound-accepted sound .limits in omega (arith, translated-size (sound-table sound))
+  fitting-small = let limits = sound-accepted sound .limits in omega (arith, translated-size (sound-formed sound))
 
   pub not-fitting : (room : ℕ) → room < 8 * (operandsIn (tableIn xs c) c + c .outputs) → rm3In room (tableIn xs c) c ≡ refused 11 0
   not-fitting room h = rw (fitting-size, lt-ltb room (8 * (operandsIn (tableIn xs c) c + c .outputs)) h)

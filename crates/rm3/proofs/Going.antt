@@ -14,9 +14,8 @@ use Rattle.majority.specs.Translate.{after}
 use Rattle.majority.proofs.Rm3Nodes.{named}
 use Rattle.majority.proofs.Rm3Size.{translated-size}
 use Rattle.tables.specs.Worths.{Sound, tableIn, Fresh}
-use Rattle.tables.proofs.Worths.{sound-accepted}
+use Rattle.tables.proofs.Worths.{sound-accepted, sound-formed}
 use Rattle.rm3.specs.Laid.{Writes, operandsIn, Gone}
-use Rattle.rm3.proofs.Reading.{sound-table}
 use Rattle.rm3.proofs.Placing.{gate-front}
 use Rattle.rm3.proofs.Turning.{turned-start, turned-more, turned-table, begins-size}
 
@@ -55,14 +54,14 @@ module _ {bytes : List ℕ} {c : Counts} (sound : Sound bytes c) where
   after-front : (operands : List ℕ) (ts : List Record) (i : ℕ) → i < c .inputs + c .gates → after (take (suc i) operands) ts (recordAt rs i) ≡ after operands ts (recordAt rs i)
   after-front operands ts i h =
       ap (λ (g : List Record). byKind (recordAt rs i .kind) (ts ++ input ∷ []) g ts ts)
-      (gate-front operands (suc i) (recordAt rs i) ts (reads-lower (sound-table sound) i (omega (arith, sound-table sound .whole))))
+      (gate-front operands (suc i) (recordAt rs i) ts (reads-lower (sound-formed sound) i (omega (arith, sound-formed sound .whole))))
 
   -- no table so far is long
   pub table-small : (k : ℕ) → k ≤ operandsIn rs c → k ≤ 3136
-  table-small k h = let limits = sound-accepted sound .limits in omega (arith, translated-size (sound-table sound))
+  table-small k h = let limits = sound-accepted sound .limits in omega (arith, translated-size (sound-formed sound))
 
   pub gone-small : {ys operands xs : List ℕ} {i at : ℕ} → Gone c rs ys i at operands xs → at ≤ 3136
-  gone-small so = omega (arith, so .here, table-small _ (begins-size (sound-table sound) (turned-table (sound-table sound) (so .turned))))
+  gone-small so = omega (arith, so .here, table-small _ (begins-size (sound-formed sound) (turned-table (sound-formed sound) (so .turned))))
 
   -- one record more
   pub gone-more : {ys operands xs xs′ : List ℕ} {i at next : ℕ} (r : Record) → r ≡ recordAt rs i → i < c .inputs + c .gates → 8 * operandsIn rs c ≤ length ys
@@ -72,11 +71,11 @@ module _ {bytes : List ℕ} {c : Counts} (sound : Sound bytes c) where
       let table = after operands (so .table) r in
       let size = writes .size (so .table) (so .here) in
       let one : i + 1 ≡ suc i = omega arith in
-      let turned = turned-more (sound-table sound) table h (after-front operands (so .table) i h ∙ ap (after operands (so .table)) (sym is)) (so .turned) in
+      let turned = turned-more (sound-formed sound) table h (after-front operands (so .table) i h ∙ ap (after operands (so .table)) (sym is)) (so .turned) in
       let front : take (suc (i + 1)) (set operands (i + 1) (next + 1)) ≡ named (take (suc i) operands) table =
       take-suc-set operands (i + 1) (next + 1) (omega (arith, so .room)) ∙ rw (one, size)
       in
-      let within = begins-size (sound-table sound) (turned-table (sound-table sound) turned) in
+      let within = begins-size (sound-formed sound) (turned-table (sound-formed sound) turned) in
       record {
         table = table;
         here = size;

@@ -25,10 +25,9 @@ use Rattle.majority.proofs.Rm3Formed.{translated-formed}
 use Rattle.majority.proofs.Rm3Operands.{constant-operand, input-operand}
 use Rattle.majority.proofs.Rm3Levels.{level3-at-most}
 use Rattle.tables.specs.Worths.{Sound, tableIn, Fresh}
-use Rattle.tables.proofs.Worths.{sound-accepted}
+use Rattle.tables.proofs.Worths.{sound-accepted, sound-formed}
 use Rattle.rm3.specs.Turned.{Turned}
 use Rattle.rm3.specs.Levelled.{edgeLevel, gateLevel, Levelled}
-use Rattle.rm3.proofs.Reading.{sound-table}
 use Rattle.rm3.proofs.Turning.{turned-start, turned-more, turned-operands, turned-table, begins-whole, begins-size}
 use Rattle.rm3.proofs.Going.{table-small}
 use Rattle.rm3.proofs.GateLevels.{gate-level, gate-deep}
@@ -50,7 +49,7 @@ module _ {bytes : List ℕ} {c : Counts} (sound : Sound bytes c) where
 
   -- the first operand so far is that of the constant
   pub turned-constant : {i : ℕ} {operands : List ℕ} {ts : List Record} → Turned (c .inputs) (c .gates) rs i operands ts → getD operands 0 0 ≡ 0
-  turned-constant so = sym (turned-operands (sound-table sound) so .same 0 (omega (arith, so .count))) ∙ constant-operand (sound-table sound)
+  turned-constant so = sym (turned-operands (sound-formed sound) so .same 0 (omega (arith, so .count))) ∙ constant-operand (sound-formed sound)
 
   -- the inputs are translated
   record Entered (j : ℕ) : Type 0 where
@@ -67,15 +66,15 @@ module _ {bytes : List ℕ} {c : Counts} (sound : Sound bytes c) where
       record {
         operands = named (so .operands) next;
         table = next;
-        turned = turned-more (sound-table sound) next (omega arith) (ap (after (so .operands) (so .table)) (sound-table sound .inputs j (omega arith))) (so .turned);
+        turned = turned-more (sound-formed sound) next (omega arith) (ap (after (so .operands) (so .table)) (sound-formed sound .inputs j (omega arith))) (so .turned);
         size = omega (arith, length-more (so .table) input, so .size);
       }
 
   input-level : (k : ℕ) {operands : List ℕ} {ts : List Record} → k ≤ c .inputs → Turned (c .inputs) (c .gates) rs (c .inputs) operands ts → f (getD operands k 0) ≡ 0
   input-level zero h so = ap f (turned-constant so) ∙ false-worth levels _
   input-level (suc j) h so =
-      ap f (sym (turned-operands (sound-table sound) so .same (suc j) (omega (arith, so .count))) ∙ input-operand (sound-table sound) j (omega arith))
-      ∙ input3-eq (translated-formed (sound-table sound)) levels j (omega arith)
+      ap f (sym (turned-operands (sound-formed sound) so .same (suc j) (omega (arith, so .count))) ∙ input-operand (sound-formed sound) j (omega arith))
+      ∙ input3-eq (translated-formed (sound-formed sound)) levels j (omega arith)
 
   pub levelled-start : {ls : List ℕ} → Fresh 0 ls → Levelled c rs (c .inputs) 0 ls
   unfolding highest
@@ -101,30 +100,30 @@ module _ {bytes : List ℕ} {c : Counts} (sound : Sound bytes c) where
     next = gate3 (so .operands) r (so .table)
 
     turned : Turned (c .inputs) (c .gates) rs (suc i) (named (so .operands) next) next
-    turned = turned-more (sound-table sound) next early (kind-two (r .kind) _ _ _ _ (sound-table sound .gates i late early .0)) (so .turned)
+    turned = turned-more (sound-formed sound) next early (kind-two (r .kind) _ _ _ _ (sound-formed sound .gates i late early .0)) (so .turned)
 
     begins : Begins blank next (translation (c .inputs) (c .gates) rs)
-    begins = begins-whole (sound-table sound) (turned-table (sound-table sound) turned)
+    begins = begins-whole (sound-formed sound) (turned-table (sound-formed sound) turned)
 
     -- the level as the code finds it
     is : gateLevel ls r ≡ f (length next + 1)
     unfolding gateLevel
     is =
-        let low = sound-table sound .gates i late early .1 in
+        let low = sound-formed sound .gates i late early .1 in
         rw (so .each (nodeOf (r .e1)) (omega (arith, low .first)), so .each (nodeOf (r .e2)) (omega (arith, low .second)), so .each (nodeOf (r .e3)) (omega (arith, low .third)))
-        (sym (gate-level (translated-formed (sound-table sound)) (so .operands) r (so .table) (turned-constant (so .turned)) (so .late) begins))
+        (sym (gate-level (translated-formed (sound-formed sound)) (so .operands) r (so .table) (turned-constant (so .turned)) (so .late) begins))
 
     pub level-small : gateLevel ls r ≤ 4000
     level-small =
-        let within = begins-size (sound-table sound) (turned-table (sound-table sound) turned) in
-        rw is (omega (arith, level3-at-most (translated-formed (sound-table sound)) (length next + 1) (omega arith), table-small sound _ within))
+        let within = begins-size (sound-formed sound) (turned-table (sound-formed sound) turned) in
+        rw is (omega (arith, level3-at-most (translated-formed (sound-formed sound)) (length next + 1) (omega arith), table-small sound _ within))
 
     pub levelled-more : (l d′ : ℕ) → l ≡ gateLevel ls r → d′ ≡ max depth l → Levelled c rs (i + 1) d′ (set ls (i + 1) l)
     levelled-more l d′ el ed =
         let limits = sound-accepted sound .limits in
         let one : i + 1 ≡ suc i = omega arith in
         let level : l ≡ f (length next + 1) = el ∙ is in
-        let made = gate-level (translated-formed (sound-table sound)) (so .operands) r (so .table) (turned-constant (so .turned)) (so .late) begins in
+        let made = gate-level (translated-formed (sound-formed sound)) (so .operands) r (so .table) (turned-constant (so .turned)) (so .late) begins in
         record {
           operands = named (so .operands) next;
           table = next;
@@ -135,5 +134,5 @@ module _ {bytes : List ℕ} {c : Counts} (sound : Sound bytes c) where
               (λ q. rw q (getD-set-same ls (i + 1) l 0 (omega (arith, so .room)) ∙ level ∙ ap f (sym (rw (so .turned .count, ← one) at (getD-append-seam (so .operands) (length next + 1) [] 0)))))
               (λ q. getD-set-other ls (i + 1) k l 0 (omega arith) ∙ so .each k (omega arith) ∙ ap f (sym (List·getD-append (so .operands) ((length next + 1) ∷ []) 0 k (omega (arith, so .turned .count)))))
               (eq-or-lt-of-le h);
-          deep = ed ∙ rw (so .deep, level, made) (sym (gate-deep (translated-formed (sound-table sound)) (so .operands) r (so .table) (turned-constant (so .turned)) (so .late) begins));
+          deep = ed ∙ rw (so .deep, level, made) (sym (gate-deep (translated-formed (sound-formed sound)) (so .operands) r (so .table) (turned-constant (so .turned)) (so .late) begins));
         }

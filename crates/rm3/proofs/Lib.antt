@@ -1,17 +1,16 @@
-pub mod Reading
-pub mod CountHelpers
-pub mod Placing
-pub mod Laying
-pub mod GateLaid
-pub mod NodeLaid
-pub mod Turning
-pub mod Going
-pub mod Naming
-pub mod Fitting
+mod CountHelpers
+mod Placing
+mod Laying
+mod GateLaid
+mod NodeLaid
+mod Turning
+mod Going
+mod Naming
+mod Fitting
 pub mod SaidOnce
-pub mod PlaceLevels
-pub mod GateLevels
-pub mod Levelling
-pub mod Deepening
+mod PlaceLevels
+mod GateLevels
+mod Levelling
+mod Deepening
 pub mod Replies
 pub mod Claims

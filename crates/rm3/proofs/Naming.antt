@@ -15,11 +15,11 @@ use Rattle.majority.proofs.Rm3Formed.{translated}
 use Rattle.tables.specs.Bytes.{putRecord}
 use Rattle.tables.specs.Worths.{Sound, tableIn}
 use Rattle.tables.proofs.Encoded.{Bytes}
+use Rattle.tables.proofs.Worths.{sound-formed}
 use Rattle.rm3.specs.Calls.{over}
 use Rattle.rm3.specs.Turned.{Named}
 use Rattle.rm3.specs.Laid.{Laid, Places, operandsIn, Gone, LaidWhole}
 use Rattle.rm3.specs.declared.writing.Spot.{Spot}
-use Rattle.rm3.proofs.Reading.{sound-table}
 use Rattle.rm3.proofs.Placing.{place-front}
 use Rattle.rm3.proofs.Laying.{laid-output, laid-whole}
 use Rattle.rm3.proofs.Turning.{turned-end, named-more, named-table, named-end, begins-size}
@@ -38,17 +38,17 @@ module _ {bytes : List ℕ} {c : Counts} (sound : Sound bytes c) where
   rs = tableIn bytes c
 
   pub naming-start : {ys operands xs : List ℕ} {at : ℕ} → Gone c rs ys (c .inputs + c .gates) at operands xs → Naming c rs ys 0 at operands xs
-  naming-start so = record { table = so .table; outputs = []; here = so .here; named = turned-end (sound-table sound) (so .turned); laid = so .laid }
+  naming-start so = record { table = so .table; outputs = []; here = so .here; named = turned-end (sound-formed sound) (so .turned); laid = so .laid }
 
   pub naming-small : {ys operands xs : List ℕ} {j at : ℕ} → Naming c rs ys j at operands xs → at ≤ 3136
-  naming-small so = omega (arith, so .here, table-small sound _ (begins-size (sound-table sound) (named-table (sound-table sound) (so .named))))
+  naming-small so = omega (arith, so .here, table-small sound _ (begins-size (sound-formed sound) (named-table (sound-formed sound) (so .named))))
 
   -- one output more
   pub naming-more : {ys operands xs xs′ : List ℕ} {j at : ℕ} {spot : Spot} (e : ℕ) → e ≡ recordAt rs (c .inputs + c .gates + j) .e1 → j < c .outputs → 8 * (operandsIn rs c + c .outputs) ≤ length ys
       → Places (place false operands e) at spot xs xs′ → Naming c rs ys j at operands xs
       → Naming c rs ys (j + 1) (spot .at) operands (putRecord xs′ (operandsIn rs c + j) (output (spot .operand)))
   naming-more {ys} {operands} {xs} {xs′} {j} {at} {spot} e is h room places so =
-      let formed = sound-table sound in
+      let formed = sound-formed sound in
       let ts = so .table in
       let os = so .outputs in
       let one : j + 1 ≡ suc j = omega arith in
@@ -69,7 +69,7 @@ module _ {bytes : List ℕ} {c : Counts} (sound : Sound bytes c) where
       }
 
   pub naming-end : {ys operands xs : List ℕ} {at : ℕ} → Naming c rs ys (c .outputs) at operands xs → LaidWhole c rs ys xs
-  naming-end so = rw (named-end (sound-table sound) (so .named)) (so .laid)
+  naming-end so = rw (named-end (sound-formed sound) (so .named)) (so .laid)
 
   -- the bytes of the whole table, which was laid in xs after what stands for the nodes was put to ys
   pub laid-over : {ys operands xs xs′ : List ℕ} {at : ℕ} → Bytes xs′ → 8 * (operandsIn rs c + c .outputs) ≤ length xs → Gone c rs ys (c .inputs + c .gates) at operands xs → LaidWhole c rs xs xs′
@@ -77,7 +77,7 @@ module _ {bytes : List ℕ} {c : Counts} (sound : Sound bytes c) where
   unfolding translation
   laid-over {ys} {operands} {xs} {xs′} bytes room so laid =
       let parts = parts3 (c .inputs) (c .gates) rs in
-      let t = translated (sound-table sound) in
+      let t = translated (sound-formed sound) in
       let whole : length (parts .table ++ parts .outputs) ≡ operandsIn rs c + c .outputs = simp length-append (omega (arith, t .size, t .written)) in
       let rest : drop (8 * length (parts .table ++ parts .outputs)) xs ≡ drop (8 * length (parts .table ++ parts .outputs)) ys = rw whole (gone-rest (c .outputs) so) in
       laid-whole bytes (t .size) (omega (arith, t .written)) laid ∙ rw rest

@@ -1,10 +1,10 @@
 // The depth of the RM3 table, without writing it.
 use majority::Counts;
 use majority::Record;
+use majority::higher;
 use majority::node;
 use patterns::output_helped;
 use patterns::pattern_of;
-use tables::higher;
 use tables::record_at;
 ghost use mathlib.Core.Path.{_≡_};
 ghost use Prim.Native.Nat.{_+_, _≤_, _<_};

@@ -14,7 +14,8 @@ use Rattle.majority.specs.Translate.{classOf, middle, place, gate3, parts3, tra
 use Rattle.majority.specs.Step.{fieldsFit, hasForm, rewritten, step}
 use Rattle.tables.specs.Field.{fieldAt}
 use Rattle.tables.specs.Bytes.{decode, encode}
-use Rattle.tables.specs.Calls.{checkOf, evaluateOf, reportOf}
+use Rattle.tables.specs.Calls.{checkOf}
+use Rattle.questions.specs.Calls.{evaluateOf, reportOf}
 use Rattle.rm3.specs.Calls.{rm3Of}
 use Rattle.rewriting.specs.Applied.{stored}
 use Rattle.rewriting.specs.Calls.{stepTable, stepOf, stepBytes}

@@ -8,8 +8,9 @@ use Rattle.majority.specs.Rm3.{operation}
 use Rattle.majority.specs.declared.Record.{Record}
 use Rattle.majority.specs.declared.Counts.{Counts}
 use Rattle.tables.specs.Bytes.{encode, tableOf}
-use Rattle.tables.specs.Calls.{checkOf, evaluateOf, reportOf}
-use Rattle.tables.specs.declared.Size.{Size}
+use Rattle.tables.specs.Calls.{checkOf}
+use Rattle.questions.specs.Calls.{evaluateOf, reportOf}
+use Rattle.questions.specs.declared.Size.{Size}
 use Rattle.rm3.specs.Calls.{rm3Of}
 use Rattle.rewriting.specs.Script.{Run, End, finished, scriptRun}
 

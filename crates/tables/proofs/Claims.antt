@@ -1,4 +1,4 @@
--- Claimed counts: where they are those found, the reply is the plain call's; where they are others it is 3, but for 1 and 2.
+-- Claimed counts: where they are those found, the reply is the plain check's; where they are others it is 3, but for 1 and 2.
 use Prim.Native.Nat.{ℕ, _+_, _/_, _%_}
 use mathlib.Core.Path.{_≡_, refl, sym, ap, _∙_}
 use mathlib.Core.Bool.{Bool, true, false, not, _||_}
@@ -19,8 +19,8 @@ use Rattle.tables.specs.Bytes.{tableOf}
 use Rattle.tables.specs.Said.{saidCheck}
 use Rattle.tables.specs.Worths.{Sound, tableIn}
 use Rattle.tables.specs.declared.Checked.{Checked}
-use Rattle.tables.specs.Calls.{badLength, checkOf, evaluateOf, reportOf}
-use Rattle.tables.specs.Claimed.{otherCounts, checkKinds, checkCounted, checkClaimed, claimedCheck, claimedEvaluate, claimedReport}
+use Rattle.tables.specs.Calls.{badLength, checkOf}
+use Rattle.tables.specs.Claimed.{otherCounts, checkKinds, checkCounted, checkClaimed, claimedCheck}
 use Rattle.tables.proofs.Runs.{or-true}
 use Rattle.tables.proofs.After.{same-table, checked-table, checked-sound}
 
@@ -107,19 +107,10 @@ module _ (xs : List ℕ) where
   check-counted = rw (own-length, records-counted held)
 
   module _ (claim : Counts) where
-    -- the counts found are claimed: the plain calls' replies
-    module _ (own : claim ≡ countsOf held) where
-      pub claimed-check : claimedCheck xs claim ≡ checkOf xs (length xs)
-      unfolding claimedCheck checkClaimed
-      claimed-check = rw (kinds-then held (checkCounted claim held) (λ c. checkCounted c held c) (ap (λ (c : Counts). checkCounted c held (countsOf held)) own)) (sym check-counted)
-
-      pub claimed-evaluate : (a : ℕ) → claimedEvaluate xs claim a ≡ evaluateOf xs (length xs) a
-      unfolding claimedEvaluate evaluateOf
-      claimed-evaluate a = rw claimed-check
-
-      pub claimed-report : claimedReport xs claim ≡ reportOf xs (length xs)
-      unfolding claimedReport reportOf
-      claimed-report = rw claimed-check
+    -- the counts found are claimed: the plain check's reply
+    pub claimed-check : claim ≡ countsOf held → claimedCheck xs claim ≡ checkOf xs (length xs)
+    unfolding claimedCheck checkClaimed
+    claimed-check own = rw (kinds-then held (checkCounted claim held) (λ c. checkCounted c held c) (ap (λ (c : Counts). checkCounted c held (countsOf held)) own)) (sym check-counted)
 
     -- others are claimed: 1, 2 and then 3
     pub claimed-other : otherCounts claim (countsOf held) ≡ true

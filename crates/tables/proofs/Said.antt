@@ -8,11 +8,7 @@ use Rattle.tables.specs.declared.Refusal.{Refusal}
 use Rattle.tables.specs.declared.Refusal.the-variants.{Length, Kind, Count, NotZero, Edge, Assignment, Rule, Field, Form, Gates, Room, Script}
 use Rattle.tables.specs.declared.Checked.{Checked}
 use Rattle.tables.specs.declared.Checked.the-variants.{Accepted, Refused}
-use Rattle.tables.specs.declared.Valued.{Valued}
-use Rattle.tables.specs.declared.Valued.the-variants.{Outputs, Refused as ValueRefused}
-use Rattle.tables.specs.declared.Reported.{Reported}
-use Rattle.tables.specs.declared.Reported.the-variants.{Whole, Refused as ReportRefused}
-use Rattle.tables.specs.Said.{refusalNumber, refusalRecord, saidCheck, saidValue, saidReport}
+use Rattle.tables.specs.Said.{refusalNumber, refusalRecord, saidCheck}
 
 -- the refusal of a number and a record
 pub refusalOf : ℕ → ℕ → Refusal
@@ -52,19 +48,3 @@ said-check-once = once Accepted Refused saidCheck undone
     undone : (r : Checked) → back Accepted Refused saidCheck (saidCheck r) ≡ r
     undone (Accepted c) = refl
     undone (Refused r) = ap Refused (refusal-back r)
-
-pub said-value-once : (a b : Valued) → saidValue a ≡ saidValue b → a ≡ b
-unfolding back
-said-value-once = once Outputs ValueRefused saidValue undone
-  where
-    undone : (r : Valued) → back Outputs ValueRefused saidValue (saidValue r) ≡ r
-    undone (Outputs v) = refl
-    undone (ValueRefused r) = ap ValueRefused (refusal-back r)
-
-pub said-report-once : (a b : Reported) → saidReport a ≡ saidReport b → a ≡ b
-unfolding back
-said-report-once = once Whole ReportRefused saidReport undone
-  where
-    undone : (r : Reported) → back Whole ReportRefused saidReport (saidReport r) ≡ r
-    undone (Whole w) = refl
-    undone (ReportRefused r) = ap ReportRefused (refusal-back r)

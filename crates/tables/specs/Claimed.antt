@@ -1,4 +1,4 @@
--- What the questions reply on records whose counts are claimed (SPEC 7): the used length is that of the bytes, and other counts are refused with 3.
+-- What the check replies on records whose counts are claimed (SPEC 7): the used length is that of the bytes, and other counts are refused with 3.
 use Prim.Native.Nat.{ℕ, _/_, _%_}
 use mathlib.Core.Bool.{Bool, not, _||_}
 use mathlib.Core.List.{List}
@@ -9,9 +9,7 @@ use Rattle.majority.specs.Seek.{first}
 use Rattle.majority.specs.Check.{Reply, accepted, refused, andThen, badKindAt, countsOf, badCounts, checkFields}
 use Rattle.majority.specs.declared.Record.{Record}
 use Rattle.majority.specs.declared.Counts.{Counts}
-use Rattle.tables.specs.declared.Size.{Size}
 use Rattle.tables.specs.Bytes.{tableOf}
-use Rattle.tables.specs.Calls.{valueOf, sizeOf}
 
 -- the counts claimed are not those found
 abbrev pub otherCounts : Counts → Counts → Bool
@@ -35,9 +33,3 @@ checkClaimed claim rs = andThen (checkKinds rs) (checkCounted claim rs)
 -- the check of all bytes of xs
 unfoldable pub claimedCheck : List ℕ → Counts → Reply Counts
 claimedCheck xs claim = if not (eqb (length xs % 8) 0) then refused 1 0 else checkClaimed claim (tableOf xs (length xs / 8))
-
-unfoldable pub claimedEvaluate : List ℕ → Counts → ℕ → Reply ℕ
-claimedEvaluate xs claim a = andThen (claimedCheck xs claim) (valueOf a (tableOf xs (length xs / 8)))
-
-unfoldable pub claimedReport : List ℕ → Counts → Reply Size
-claimedReport xs claim = andThen (claimedCheck xs claim) (λ c. accepted (sizeOf (tableOf xs (length xs / 8)) c))

@@ -6,11 +6,6 @@ use Rattle.tables.specs.declared.Refusal.{Refusal}
 use Rattle.tables.specs.declared.Refusal.the-variants.{Length, Kind, Count, NotZero, Edge, Assignment, Rule, Field, Form, Gates, Room, Script}
 use Rattle.tables.specs.declared.Checked.{Checked}
 use Rattle.tables.specs.declared.Checked.the-variants.{Accepted, Refused}
-use Rattle.tables.specs.declared.Size.{Size}
-use Rattle.tables.specs.declared.Valued.{Valued}
-use Rattle.tables.specs.declared.Valued.the-variants.{Outputs, Refused as ValueRefused}
-use Rattle.tables.specs.declared.Reported.{Reported}
-use Rattle.tables.specs.declared.Reported.the-variants.{Whole, Refused as ReportRefused}
 use Rattle.tables.specs.declared.checking.Fault.{Fault}
 use Rattle.tables.specs.declared.checking.Fault.the-variants.{Nothing, NotZero as FaultNotZero, Edge as FaultEdge}
 
@@ -45,14 +40,6 @@ refusalRecord Script = 0
 abbrev pub saidCheck : Checked → Reply Counts
 saidCheck (Accepted c) = accepted c
 saidCheck (Refused r) = refused (refusalNumber r) (refusalRecord r)
-
-abbrev pub saidValue : Valued → Reply ℕ
-saidValue (Outputs v) = accepted v
-saidValue (ValueRefused r) = refused (refusalNumber r) (refusalRecord r)
-
-abbrev pub saidReport : Reported → Reply Size
-saidReport (Whole w) = accepted w
-saidReport (ReportRefused r) = refused (refusalNumber r) (refusalRecord r)
 
 -- the number of a record's fault, 0 where there is none
 abbrev pub faultNumber : Fault → ℕ

@@ -1,24 +1,17 @@
-// A table in lent bytes: its records, its check, and what it answers.
+// A table in lent bytes: its records and its check.
 mod checking;
 mod claimed;
 mod fields;
-mod levels;
 mod records;
-mod values;
 
 use checking::check_records;
 pub use claimed::check_as;
-pub use claimed::evaluate_as;
-pub use claimed::report_as;
-pub use levels::higher;
-use levels::size_after;
 use majority::Counts;
 pub use records::put_record;
 pub use records::record_at;
-use values::value_after;
 ghost use mathlib.Core.Path.{_≡_};
-ghost use Rattle.tables.specs.Said.{refusalNumber, refusalRecord, saidCheck, saidValue, saidReport};
-ghost use Rattle.tables.specs.Calls.{checkOf, evaluateOf, reportOf};
+ghost use Rattle.tables.specs.Said.{refusalNumber, refusalRecord, saidCheck};
+ghost use Rattle.tables.specs.Calls.{checkOf};
 
 // Why a call is refused. A number is that of a record, counted from 0.
 pub enum Refusal {
@@ -38,22 +31,6 @@ pub enum Refusal {
 
 pub enum Checked {
     Accepted(Counts),
-    Refused(Refusal),
-}
-
-pub enum Valued {
-    Outputs(u32),
-    Refused(Refusal),
-}
-
-// A table's size, the number of its gates, and its depth.
-pub struct Size {
-    pub gates: usize,
-    pub depth: usize,
-}
-
-pub enum Reported {
-    Whole(Size),
     Refused(Refusal),
 }
 
@@ -104,18 +81,4 @@ pub fn check(s: &[u8], used: usize) -> Checked
         return Checked::Refused(Refusal::Length);
     }
     check_records(s, used / 8)
-}
-
-// The outputs' number of the table under an assignment: bit j is output j, counted from 0.
-pub fn evaluate(s: &[u8], used: usize, assignment: u32) -> Valued
-    ensures { λ r. ⌜ saidValue r ≡ evaluateOf (now (s .entry)) used assignment ⌝ }
-{
-    value_after(s, check(s, used), assignment)
-}
-
-// The table's size and depth.
-pub fn report(s: &[u8], used: usize) -> Reported
-    ensures { λ r. ⌜ saidReport r ≡ reportOf (now (s .entry)) used ⌝ }
-{
-    size_after(s, check(s, used))
 }

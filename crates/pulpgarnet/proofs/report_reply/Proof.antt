@@ -1,7 +1,7 @@
 -- `pulpgarnet::report_reply` meets its contract: each case of the answer gives the numbers of its reply.
 use borrow.Author.Needs.{needs}
 use mathlib.Core.Path.{refl}
-use Rattle.tables.specs.Said.{saidReport}
+use Rattle.questions.specs.Said.{saidReport}
 use Rattle.pulpgarnet.specs.Replies.{reportedReply}
 use Rattle.pulpgarnet.proofs.Told.{told}
 use Rattle.pulpgarnet.proofs.report_reply.Statement.{statement}

@@ -1,7 +1,7 @@
 -- `pulpgarnet::value_reply` meets its contract: each case of the answer gives the numbers of its reply.
 use borrow.Author.Needs.{needs}
 use mathlib.Core.Path.{refl}
-use Rattle.tables.specs.Said.{saidValue}
+use Rattle.questions.specs.Said.{saidValue}
 use Rattle.pulpgarnet.specs.Replies.{valuedReply}
 use Rattle.pulpgarnet.proofs.Told.{told}
 use Rattle.pulpgarnet.proofs.value_reply.Statement.{statement}

@@ -2,7 +2,7 @@
 use borrow.Author.Needs.{needs}
 use mathlib.Core.Path.{ap, _∙_}
 use Rattle.majority.specs.declared.Counts.{Counts}
-use Rattle.tables.specs.Claimed.{claimedEvaluate}
+use Rattle.questions.specs.Claimed.{claimedEvaluate}
 use Rattle.reading.proofs.evaluate_parts.Statement.{statement}
 use Rattle.reading.proofs.evaluate_parts.Tie as tie
 

@@ -35,11 +35,11 @@ use denote.Triple.Table.{entered, cited}
 use denote.Triple.Walked.{says, Stays, stay-none, stay-none-slice, walkOf, goes-none, goes-none-slice, Walks, ends-at, walked, walk-meets}
 use denote.Exit.{yes}
 use denote.Triple.Clauses.{ensured, lasts}
-use Rattle.tables.specs.Said.{saidValue}
-use Rattle.tables.specs.Claimed.{claimedEvaluate}
-use Rattle.tables.specs.declared.Valued.{Valued}
-use Rattle.tables.proofs.Valued as S
-use Rattle.tables.proofs.Valued.Laws as S′
+use Rattle.questions.specs.Said.{saidValue}
+use Rattle.questions.specs.Claimed.{claimedEvaluate}
+use Rattle.questions.specs.declared.Valued.{Valued}
+use Rattle.questions.proofs.Valued as S
+use Rattle.questions.proofs.Valued.Laws as S′
 use Rattle.majority.specs.declared.Counts.{Counts}
 use Rattle.reading.specs.Held.{claimed, readEvaluate}
 use Rattle.reading.specs.declared.Reading.{Reading}

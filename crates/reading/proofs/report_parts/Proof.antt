@@ -1,7 +1,7 @@
 -- `reading::report_parts` meets its contract: the counts as one claim.
 use borrow.Author.Needs.{needs}
 use mathlib.Core.Path.{ap, _∙_}
-use Rattle.tables.specs.Claimed.{claimedReport}
+use Rattle.questions.specs.Claimed.{claimedReport}
 use Rattle.reading.proofs.report_parts.Statement.{statement}
 use Rattle.reading.proofs.report_parts.Tie as tie
 

@@ -7,11 +7,11 @@ use denote.Enum.Laws as EL
 use denote.Triple.Spec.{tripleOf}
 use denote.Triple.Table.{entered, cited}
 use Rattle.majority.specs.declared.Counts.{Counts}
-use Rattle.tables.specs.Said.{saidReport}
-use Rattle.tables.specs.Claimed.{claimedReport}
-use Rattle.tables.specs.declared.Reported.{Reported}
-use Rattle.tables.proofs.Reported as S
-use Rattle.tables.proofs.Reported.Laws as S′
+use Rattle.questions.specs.Said.{saidReport}
+use Rattle.questions.specs.Claimed.{claimedReport}
+use Rattle.questions.specs.declared.Reported.{Reported}
+use Rattle.questions.proofs.Reported as S
+use Rattle.questions.proofs.Reported.Laws as S′
 use Rattle.reading.specs.Held.{readReport}
 use Rattle.reading.proofs.Makes as makes
 use Rattle.reading.proofs.Parts.{read-report}

@@ -8,7 +8,7 @@ use lib.Seq.{take-all}
 use Rattle.majority.specs.Count3.{recordOperations, total}
 use Rattle.majority.proofs.Rm3Size.{operations-counted}
 use Rattle.tables.specs.Worths.{tableIn}
-use Rattle.rm3.proofs.Reading.{sound-table, read-record}
+use Rattle.tables.proofs.Worths.{sound-formed, read-record}
 use Rattle.rm3.proofs.CountHelpers.{record-most, counted-more}
 use Rattle.rm3.proofs.counting.operations.Statement.{statement}
 use Rattle.rm3.proofs.counting.operations.Tie as tie
@@ -53,14 +53,14 @@ loop-again c = let l = c .before .before .before .before .before in
     let sound = l .before .before .pre in
     let rs = tableIn (a .s .now) (a .counts) in
     let here = c .record-operations .ensures ∙ ap recordOperations (c .before .record-at .ensures ∙ read-record sound (l .loop .i) (c .before .before .if1 .taken)) in
-    (search needs, omega (arith, record-most (c .before .record-at .result)), counted-more rs (l .loop .i) _ _ (omega (arith, sound-table sound .whole)) (l .loop .inv .2) here)
+    (search needs, omega (arith, record-most (c .before .record-at .result)), counted-more rs (l .loop .i) _ _ (omega (arith, sound-formed sound .whole)) (l .loop .inv .2) here)
 
 returns : tie.Need-returns Inv-loop μ-loop
 returns c = let l = c .before .before .before in
     let a = l .before .before .args in
     let sound = l .before .before .pre in
-    let all : take (l .loop .i) (tableIn (a .s .now) (a .counts)) ≡ tableIn (a .s .now) (a .counts) = take-all (l .loop .i) (tableIn (a .s .now) (a .counts)) (omega (arith, sound-table sound .whole)) in
-    l .loop .inv .2 ∙ ap (total recordOperations) all ∙ sym (operations-counted (sound-table sound))
+    let all : take (l .loop .i) (tableIn (a .s .now) (a .counts)) ≡ tableIn (a .s .now) (a .counts) = take-all (l .loop .i) (tableIn (a .s .now) (a .counts)) (omega (arith, sound-formed sound .whole)) in
+    l .loop .inv .2 ∙ ap (total recordOperations) all ∙ sym (operations-counted (sound-formed sound))
 
 pub operations-spec : {M : Type 1} → statement M
 operations-spec =

@@ -5,9 +5,8 @@ use native.Mathlib.Omega.{arith}
 use borrow.Author.Needs.{needs}
 use Rattle.majority.proofs.Formed.{below-more, reads-lower}
 use Rattle.tables.specs.Worths.{tableIn}
-use Rattle.tables.proofs.Worths.{sound-accepted}
+use Rattle.tables.proofs.Worths.{sound-accepted, sound-formed, read-record}
 use Rattle.rm3.specs.Levelled.{gateLevel, Levelled}
-use Rattle.rm3.proofs.Reading.{sound-table, read-record}
 use Rattle.rm3.proofs.Levelling.{levelled-start, level-small, levelled-more}
 use Rattle.rm3.proofs.levels.set_levels.Statement.{statement}
 use Rattle.rm3.proofs.levels.set_levels.Tie as tie
@@ -35,7 +34,7 @@ gate-level-requires c κs = let l = c .before .before .before .before in
     let sound = l .before .before .pre .0 in
     let limits = sound-accepted sound .limits in
     rw (c .record-at .ensures ∙ read-record sound i (omega arith))
-    (below-more _ _ _ (omega arith) (reads-lower (sound-table sound) i (omega (arith, sound-table sound .whole))), level-small sound (l .loop .inv .0) (c .before .before .if1 .taken) (l .loop .inv .2))
+    (below-more _ _ _ (omega arith) (reads-lower (sound-formed sound) i (omega (arith, sound-formed sound .whole))), level-small sound (l .loop .inv .0) (c .before .before .if1 .taken) (l .loop .inv .2))
 
 add-levels : tie.Need-add-levels Inv-loop μ-loop
 add-levels c = search needs

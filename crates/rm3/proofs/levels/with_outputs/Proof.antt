@@ -6,8 +6,7 @@ use borrow.Author.Needs.{needs}
 use Rattle.majority.specs.declared.Record.{Record}
 use Rattle.majority.proofs.Formed.{reads-nodes}
 use Rattle.tables.specs.Worths.{tableIn}
-use Rattle.tables.proofs.Worths.{sound-accepted}
-use Rattle.rm3.proofs.Reading.{sound-table, read-record}
+use Rattle.tables.proofs.Worths.{sound-accepted, sound-formed, read-record}
 use Rattle.rm3.proofs.Deepening.{Deepened, deepened-start, helper-small, deepened-more, deepened-end}
 use Rattle.rm3.proofs.levels.with_outputs.Statement.{statement}
 use Rattle.rm3.proofs.levels.with_outputs.Tie as tie
@@ -39,7 +38,7 @@ output-depth-requires c κs = let l = c .before .before .before .before in
     let a = l .before .before .args in
     let k = a .counts .inputs + a .counts .gates + l .loop .j in
     let limits = sound-accepted (pre .0) .limits in
-    let low = reads-nodes (sound-table (pre .0)) k (omega (arith, sound-table (pre .0) .whole)) .first in
+    let low = reads-nodes (sound-formed (pre .0)) k (omega (arith, sound-formed (pre .0) .whole)) .first in
     rw (c .record-at .ensures ∙ read-record (pre .0) k (omega arith)) (omega arith, helper-small (pre .0) (pre .1) _ (omega arith))
 
 add-j : tie.Need-add-j Inv-loop μ-loop
@@ -54,7 +53,7 @@ loop-again c = let l = c .before .before .before .before .before in
     let a = l .before .before .args in
     let k = a .counts .inputs + a .counts .gates + l .loop .j in
     let edge = ap (λ (q : Record). q .e1) (c .before .record-at .ensures ∙ read-record (pre .0) k (omega arith)) in
-    let low = reads-nodes (sound-table (pre .0)) k (omega (arith, sound-table (pre .0) .whole)) .first in
+    let low = reads-nodes (sound-formed (pre .0)) k (omega (arith, sound-formed (pre .0) .whole)) .first in
     (search needs, deepened-more (pre .0) _ _ edge (rw edge (omega arith)) (c .before .before .before .if1 .taken) (c .output-depth .ensures) (l .loop .inv .1))
 
 returns : tie.Need-returns Inv-loop μ-loop

@@ -5,9 +5,8 @@ use native.Mathlib.Omega.{arith}
 use borrow.Author.Needs.{needs}
 use Rattle.majority.proofs.Formed.{below-more, reads-lower}
 use Rattle.tables.specs.Worths.{tableIn}
-use Rattle.tables.proofs.Worths.{sound-accepted}
+use Rattle.tables.proofs.Worths.{sound-accepted, sound-formed, read-record}
 use Rattle.rm3.specs.Laid.{Gone}
-use Rattle.rm3.proofs.Reading.{sound-table, read-record}
 use Rattle.rm3.proofs.Going.{gone-start, gone-small, gone-more}
 use Rattle.rm3.proofs.writing.put_nodes.Statement.{statement}
 use Rattle.rm3.proofs.writing.put_nodes.Tie as tie
@@ -34,7 +33,7 @@ put-node-requires c κs = let l = c .before .before .before .before .before in
     let sound = l .before .before .before .pre .0 in
     let limits = sound-accepted sound .limits in
     rw (c .before .record-at .ensures ∙ read-record sound i (omega arith))
-    (below-more _ _ _ (omega arith) (reads-lower (sound-table sound) i (omega (arith, sound-table sound .whole))), omega (arith, gone-small sound (l .loop .inv .1)))
+    (below-more _ _ _ (omega arith) (reads-lower (sound-formed sound) i (omega (arith, sound-formed sound .whole))), omega (arith, gone-small sound (l .loop .inv .1)))
 
 add-operands : tie.Need-add-operands Inv-loop μ-loop
 add-operands c = let p = c .before .before in

@@ -6,8 +6,7 @@ use borrow.Author.Needs.{needs}
 use Rattle.majority.specs.declared.Record.{Record}
 use Rattle.majority.proofs.Formed.{reads-nodes}
 use Rattle.tables.specs.Worths.{tableIn}
-use Rattle.tables.proofs.Worths.{sound-accepted}
-use Rattle.rm3.proofs.Reading.{sound-table, read-record}
+use Rattle.tables.proofs.Worths.{sound-accepted, sound-formed, read-record}
 use Rattle.rm3.proofs.Naming.{Naming, naming-start, naming-small, naming-more, naming-end}
 use Rattle.rm3.proofs.writing.put_outputs.Statement.{statement}
 use Rattle.rm3.proofs.writing.put_outputs.Tie as tie
@@ -43,7 +42,7 @@ place-requires c κs = let r = c .before .before in
     let a = l .before .before .before .args in
     let k = a .counts .inputs + a .counts .gates + l .loop .j in
     let limits = sound-accepted sound .limits in
-    let low = reads-nodes (sound-table sound) k (omega (arith, sound-table sound .whole)) .first in
+    let low = reads-nodes (sound-formed sound) k (omega (arith, sound-formed sound .whole)) .first in
     (rw (r .record-at .ensures ∙ read-record sound k (omega arith)) (omega arith), c .before .output-helped .ensures, omega (arith, naming-small sound (l .loop .inv .1)))
 
 add-put-record : tie.Need-add-put-record Inv-loop μ-loop

@@ -18,7 +18,7 @@ names-past-requires-3 c κs = search needs
 
 returns-2 : tie.Need-returns-2
 returns-2 c = let d = c .before .before .before in
-    simp (ne-eqb _ _ (d .before .before .if1 .left), eq-eqb _ _ (d .if2 .taken)) (cc)
+    simp (ne-eqb _ _ (d .before .before .if1 .left), eq-eqb _ _ (d .if2 .taken)) (rw (c .names-past3 .ensures, c .before .names-past2 .ensures, c .before .before .names-past .ensures))
 
 names-past-requires-4 : tie.Need-names-past-requires-4
 names-past-requires-4 c κs = search needs

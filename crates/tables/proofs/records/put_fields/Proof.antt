@@ -42,7 +42,11 @@ same-length c = search needs
 
 returns : tie.Need-returns
 unfolding putFields
-returns c = cc
+returns c = let p4 = c .before .before in
+    let p3 = p4 .before .before .before .before in
+    let p2 = p3 .before .before .before .before in
+    let p1 = p2 .before .before .before .before in
+    rw (← p1 .put .ensures, ← p2 .put2 .ensures, ← p3 .put3 .ensures, ← p4 .put4 .ensures)
 
 pub put-fields-spec : {M : Type 1} → statement M
 put-fields-spec =

@@ -37,7 +37,8 @@ get-requires-4 : tie.Need-get-requires-4
 get-requires-4 c κs = search needs
 
 returns : tie.Need-returns
-returns c = cc
+returns c = let d = c .before .before in
+    rw (c .get4 .ensures, c .before .get3 .ensures, d .get2 .ensures, d .before .get .ensures)
 
 pub record-in-spec : {M : Type 1} → statement M
 record-in-spec =

@@ -1,0 +1,3 @@
+mod Worths
+pub mod Said
+pub mod Claims

@@ -1,0 +1,4 @@
+pub mod Said
+pub mod Worths
+pub mod Calls
+pub mod Claimed
