@@ -1,9 +1,7 @@
 // A reply: its numbers are gathered and written at once.
 ghost use mathlib.Core.Path.{_≡_};
 ghost use mathlib.Core.List.{_++_};
-ghost use Prim.Native.Nat.{_%_};
-ghost use Rattle.text.specs.Shown.{shown, cut};
-ghost use Rattle.majpipe.specs.Numbers.{fourBytes};
+ghost use Rattle.text.specs.Shown.{shown, cut, fourBytes};
 use libc::STDOUT_FILENO;
 use tables::Refusal;
 use text::Line;
@@ -41,7 +39,7 @@ impl Reply {
     {
         let line = self.line;
         Reply {
-            line: line.word(&[low(n), low(n / 256), low(n / 65536), low(n / 16777216)]),
+            line: line.four_bytes(n),
         }
     }
 
@@ -50,11 +48,4 @@ impl Reply {
         let line = self.line;
         line.write(STDOUT_FILENO)
     }
-}
-
-// The low byte.
-fn low(n: usize) -> u8
-    ensures { λ r. ⌜ r ≡ n % 256 ⌝ }
-{
-    (n % 256) as u8
 }

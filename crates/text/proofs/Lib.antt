@@ -1,3 +1,3 @@
-pub mod Appending
-pub mod Numbering
-pub mod Spelling
+mod Appending
+mod Numbering
+mod Spelling

@@ -1,7 +1,7 @@
 -- What a line shows.
-use Prim.Native.Nat.{ℕ}
+use Prim.Native.Nat.{ℕ, _/_, _%_}
 use mathlib.Core.Path.{_≡_}
-use mathlib.Core.List.{List, _++_}
+use mathlib.Core.List.{List, [], _∷_, _++_}
 use lib.ListN.{take}
 use Rattle.io.specs.Digits.{digits, Fewest}
 use Rattle.text.specs.declared.Line.{Line}
@@ -13,6 +13,10 @@ shown l = take (l .len) (l .bytes)
 -- as much of a text as a line holds: 128 bytes
 abbrev pub cut : List ℕ → List ℕ
 cut text = take 128 text
+
+-- the low 32 bits of a number, low byte first
+abbrev pub fourBytes : ℕ → List ℕ
+fourBytes n = n % 256 ∷ n / 256 % 256 ∷ n / 65536 % 256 ∷ n / 16777216 % 256 ∷ []
 
 -- new is the text old with the number n after it: its decimal digits, as many as it takes and no more
 pub record Numbered (old : List ℕ) (n : ℕ) (new : List ℕ) : Type 0 where

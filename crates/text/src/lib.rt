@@ -1,8 +1,9 @@
 // Lines and numbers for programs, and what every program on a table reads and says.
 ghost use mathlib.Core.Path.{_≡_};
 ghost use mathlib.Core.List.{[], _++_};
+ghost use Prim.Native.Nat.{_%_};
 ghost use lib.ListN.{length, take};
-ghost use Rattle.text.specs.Shown.{shown, cut, Numbered};
+ghost use Rattle.text.specs.Shown.{shown, cut, fourBytes, Numbered};
 ghost use Rattle.text.specs.Spelled.{spelled};
 use libc::STDERR_FILENO;
 use libc::STDIN_FILENO;
@@ -50,6 +51,13 @@ impl Line {
         self.word(&digits[..places])
     }
 
+    // The line with the low 32 bits of a number after its text, low byte first, cut where the line is full.
+    pub fn four_bytes(self, n: usize) -> Line
+        ensures { λ r. ⌜ shown r ≡ cut (shown self ++ fourBytes n) ⌝ }
+    {
+        self.word(&[low(n), low(n / 256), low(n / 65536), low(n / 16777216)])
+    }
+
     // The line with a refusal after its text: its number, and the record that it carries.
     pub fn refused(self, number: u32, record: usize) -> Line {
         self.word(b"refused ")
@@ -79,6 +87,13 @@ impl Line {
     pub fn complain(self) -> bool {
         self.word(b"\n").write(STDERR_FILENO)
     }
+}
+
+// The low byte.
+fn low(n: usize) -> u8
+    ensures { λ r. ⌜ r ≡ n % 256 ⌝ }
+{
+    (n % 256) as u8
 }
 
 // Puts a word behind a line's first len bytes, as far as there is room, and answers how many bytes there are then.

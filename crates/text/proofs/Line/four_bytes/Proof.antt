@@ -1,7 +1,7 @@
--- `majpipe::reply::Reply::number` meets its contract: `word` puts the four bytes behind the reply, and `low` says which they are. Assumes nothing.
+-- `text::Line::four_bytes` meets its contract: `word` puts the four bytes behind the text, and `low` says which they are. Assumes nothing.
 use borrow.Author.Needs.{needs}
-use Rattle.majpipe.proofs.reply.Reply.number.Statement.{statement}
-use Rattle.majpipe.proofs.reply.Reply.number.Tie as tie
+use Rattle.text.proofs.Line.four_bytes.Statement.{statement}
+use Rattle.text.proofs.Line.four_bytes.Tie as tie
 
 low-requires : tie.Need-low-requires
 low-requires c κs = search needs
@@ -29,8 +29,8 @@ returns c =
     let low1 = c .before .before .before .before .before .low .ensures in
     rw (low1, low2, low3, low4) at (c .word .ensures)
 
-pub number-spec : {M : Type 1} → statement M
-number-spec =
+pub four-bytes-spec : {M : Type 1} → statement M
+four-bytes-spec =
     tie.close
     (tie.spec
     low-requires
