@@ -1,8 +1,7 @@
 -- A buffer whose first n records are those wanted, and whose rest is untouched: how a record put brings it about, and that it is then told byte by byte.
-use Prim.Native.Nat.{ℕ, suc, _+_, _*_, _≤_, _<_}
+use Prim.Native.Nat.{ℕ, _+_, _*_, _≤_, _<_}
 use mathlib.Core.Path.{_≡_, refl, sym, ap, ap₂, _∙_}
 use mathlib.Core.List.{List, _++_}
-use mathlib.Core.Logic.{⊎-elim}
 use native.Mathlib.Omega.{arith}
 use native.Mathlib.Decide.{decLt, ℕ-discrete}
 use borrow.Author.Tests.{lt-ltb, le-ltb}

@@ -1,4 +1,4 @@
--- The first number at which a test holds.
+-- The first number at which a test holds (SPEC 3: the first bad record).
 use Prim.Native.Nat.{ℕ, zero, suc}
 use mathlib.Core.Bool.{Bool}
 use Rattle.majority.specs.If.{if_then_else_}

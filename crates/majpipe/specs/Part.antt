@@ -1,4 +1,4 @@
--- What is read of a part.
+-- What is read of a part (SPEC 9.1).
 use Prim.Native.Nat.{ℕ, _≤_}
 use mathlib.Core.List.{List}
 use lib.ListN.{length}

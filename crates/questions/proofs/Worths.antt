@@ -18,8 +18,8 @@ use Rattle.majority.specs.declared.Counts.{Counts}
 use Rattle.majority.proofs.Nodes.{edge-agrees, node-zero}
 use Rattle.majority.proofs.Formed.{input-eq, gate-eq, reads-nodes, below-more}
 use Rattle.majority.proofs.Levels.{edge-level, level-at-most}
-use Rattle.tables.specs.Worths.{Sound, tableIn, Fresh}
-use Rattle.tables.proofs.Worths.{sound-accepted, sound-formed}
+use Rattle.tables.specs.Sound.{Sound, tableIn, Fresh}
+use Rattle.tables.proofs.Sound.{sound-accepted, sound-formed}
 use Rattle.questions.specs.Worths.{Holds, HoldsInputs, edgeValue, gateValue, gateLevel}
 
 -- one more worth

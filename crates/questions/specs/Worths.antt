@@ -1,4 +1,4 @@
--- Lists of what nodes are worth, as a question works them out.
+-- Lists of what nodes are worth (SPEC 2.3 and 2.4), as a question works them out.
 use Prim.Native.Nat.{ℕ, suc, _≤_}
 use mathlib.Core.Path.{_≡_}
 use mathlib.Core.Bool.{Bool, false, not}

@@ -15,7 +15,7 @@ ghost use Rattle.majority.specs.Table.{Below};
 ghost use Rattle.majority.specs.Level.{depth as depthOf};
 ghost use Rattle.majority.specs.Check.{accepted, andThen};
 ghost use Rattle.tables.specs.Said.{saidCheck};
-ghost use Rattle.tables.specs.Worths.{Sound, SoundAfter, tableIn, Fresh};
+ghost use Rattle.tables.specs.Sound.{Sound, SoundAfter, tableIn, Fresh};
 ghost use Rattle.questions.specs.Said.{saidReport};
 ghost use Rattle.questions.specs.Calls.{sizeOf};
 ghost use Rattle.questions.specs.Worths.{gateLevel};

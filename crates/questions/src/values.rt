@@ -16,7 +16,7 @@ ghost use Rattle.majority.specs.Table.{Below};
 ghost use Rattle.majority.specs.Value.{bitPast, values as valuesOf, outputNumber};
 ghost use Rattle.majority.specs.Check.{andThen};
 ghost use Rattle.tables.specs.Said.{saidCheck};
-ghost use Rattle.tables.specs.Worths.{Sound, SoundAfter, tableIn, Fresh};
+ghost use Rattle.tables.specs.Sound.{Sound, SoundAfter, tableIn, Fresh};
 ghost use Rattle.questions.specs.Said.{saidValue};
 ghost use Rattle.questions.specs.Calls.{valueOf};
 ghost use Rattle.questions.specs.Worths.{Holds, HoldsInputs, edgeValue, gateValue};

@@ -15,9 +15,9 @@ use Rattle.majority.proofs.Formed.{reads-lower}
 use Rattle.majority.proofs.KeptNodes.{renumber-zero}
 use Rattle.majority.proofs.Sweep.{input-stays, gate-stays}
 use Rattle.tables.specs.Bytes.{recordIn, tableOf, putRecord}
-use Rattle.tables.specs.Worths.{Sound, tableIn}
+use Rattle.tables.specs.Sound.{Sound, tableIn}
 use Rattle.tables.proofs.Put.{put-length, put-same, put-other, put-rest}
-use Rattle.tables.proofs.Worths.{sound-accepted, sound-record}
+use Rattle.tables.proofs.Sound.{sound-accepted, sound-record}
 use Rattle.editing.proofs.Loops.{read}
 use Rattle.rewriting.specs.Marks.{Marked}
 use Rattle.rewriting.specs.Closing.{newNumber, Numbered, renumberBy, Closed, ClosedUp}

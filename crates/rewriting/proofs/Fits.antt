@@ -9,7 +9,7 @@ use Rattle.majority.specs.Step.{hasForm, rewritten}
 use Rattle.majority.specs.declared.Record.{Record}
 use Rattle.majority.specs.declared.Counts.{Counts}
 use Rattle.majority.proofs.Taken.{known-rule, share-field}
-use Rattle.tables.specs.Worths.{tableIn}
+use Rattle.tables.specs.Sound.{tableIn}
 use Rattle.tables.proofs.Encoded.{Bytes}
 use Rattle.editing.specs.Edited.{holding}
 use Rattle.changes.specs.Changes.{editedBy}

@@ -1,6 +1,6 @@
 -- What a rule knows of its gate and of the nodes that it names.
-use Prim.Native.Nat.{ℕ, zero, suc, _+_, _-_, _*_, _/_, _≤_, _<_}
-use mathlib.Core.Path.{_≡_, refl, sym, ap, ap₂, _∙_}
+use Prim.Native.Nat.{ℕ, zero, suc, _+_, _-_, _*_, _≤_, _<_}
+use mathlib.Core.Path.{_≡_, refl, ap, ap₂, _∙_}
 use mathlib.Core.Bool.{true, false, not}
 use mathlib.Core.List.{List}
 use native.Mathlib.Omega.{arith}
@@ -18,9 +18,9 @@ use Rattle.majority.proofs.Logic.{both}
 use Rattle.majority.proofs.Formed.{reads-lower}
 use Rattle.majority.proofs.Gates.{GateOf}
 use Rattle.majority.proofs.Taken.{known-rule, gate-field, share-field}
-use Rattle.tables.specs.Worths.{Sound, tableIn}
-use Rattle.tables.proofs.Decoded.{length-table, table-at}
-use Rattle.tables.proofs.Worths.{sound-accepted, sound-record}
+use Rattle.tables.specs.Sound.{Sound, tableIn}
+use Rattle.tables.proofs.Decoded.{length-table}
+use Rattle.tables.proofs.Sound.{sound-accepted, read-record}
 use Rattle.changes.specs.Changes.{recordsOf}
 
 -- the buffer xs has an accepted table with these counts, of which node g is a gate
@@ -45,7 +45,7 @@ plain-above n e h = ltb-true _ _ (both (not (isInverted e)) (ltb n (nodeOf e)) h
 node-at : {xs : List ℕ} {c : Counts} → Sound xs c → (k : ℕ) → k ≤ c .inputs + c .gates → nodeRecord (recordsOf xs) k ≡ nodeRecord (tableIn xs c) k
 node-at {xs} {c} sound k h =
     let some = sound-accepted sound .limits .some in
-    table-at xs (length xs / 8) (k - 1) (omega (arith, sound .fits)) ∙ sym (sound-record sound (k - 1) (omega arith))
+    read-record sound (k - 1) (omega arith)
 
 -- fields that fit name a gate, for every rule but sweep
 pub at-gate : {xs : List ℕ} {c : Counts} → Sound xs c → (rule g a b : ℕ) → fieldsFit (c .inputs) (c .gates) rule g a b ≡ true → (rule ≡ 8 → ⊥) → AtGate xs c g

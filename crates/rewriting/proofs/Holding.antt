@@ -15,7 +15,7 @@ use Rattle.majority.specs.declared.Counts.{Counts}
 use Rattle.majority.proofs.Insert.{insert-length}
 use Rattle.majority.proofs.Inserted.{GatesBelow, insert-formed}
 use Rattle.tables.specs.Bytes.{tableOf, putRecord}
-use Rattle.tables.specs.Worths.{tableIn}
+use Rattle.tables.specs.Sound.{tableIn}
 use Rattle.tables.proofs.Encoded.{Bytes}
 use Rattle.editing.specs.Edited.{holding, editedFrom, redirectedFrom, grown, insertedAt}
 use Rattle.editing.proofs.Held.{Held, held-start, held-put, held-bytes, held-table, held-over, holding-held}

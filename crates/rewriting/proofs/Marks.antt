@@ -17,8 +17,8 @@ use Rattle.majority.specs.declared.Counts.{Counts}
 use Rattle.majority.proofs.Formed.{below-more, reads-nodes}
 use Rattle.majority.proofs.Reached.{member-here, member-other}
 use Rattle.tables.specs.Bytes.{tableOf}
-use Rattle.tables.specs.Worths.{Sound, tableIn, Fresh}
-use Rattle.tables.proofs.Worths.{sound-accepted, sound-record}
+use Rattle.tables.specs.Sound.{Sound, tableIn, Fresh}
+use Rattle.tables.proofs.Sound.{sound-accepted, sound-record}
 use Rattle.editing.proofs.Loops.{read}
 use Rattle.rewriting.specs.Marks.{reachedBy, Marked, markNames}
 

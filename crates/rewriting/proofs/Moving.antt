@@ -13,9 +13,9 @@ use Rattle.majority.specs.declared.Counts.{Counts}
 use Rattle.majority.proofs.Formed.{below-more, reads-nodes}
 use Rattle.majority.proofs.Sweep.{output-stays}
 use Rattle.tables.specs.Bytes.{recordIn, tableOf, putRecord}
-use Rattle.tables.specs.Worths.{Sound, tableIn}
+use Rattle.tables.specs.Sound.{Sound, tableIn}
 use Rattle.tables.proofs.Put.{put-length, put-same, put-other, put-rest}
-use Rattle.tables.proofs.Worths.{sound-accepted, sound-record}
+use Rattle.tables.proofs.Sound.{sound-accepted, sound-record}
 use Rattle.editing.proofs.Loops.{read}
 use Rattle.rewriting.specs.Closing.{newNumber, renumberBy, Closed, ClosedUp, Movable, Moved}
 use Rattle.rewriting.proofs.Behind.{same-record, same-later}

@@ -17,7 +17,7 @@ use Rattle.majority.specs.declared.Record.{Record}
 use Rattle.majority.proofs.KeptNodes.{kept-in, kept-out, kept-lower}
 use Rattle.majority.proofs.CloseUp.{inputs-stay, outputs-move, closed-at}
 use Rattle.majority.proofs.Sweep.{left, keepable}
-use Rattle.tables.specs.Worths.{Fresh}
+use Rattle.tables.specs.Sound.{Fresh}
 use Rattle.rewriting.specs.Closing.{newNumber, Numbered, renumberBy}
 
 -- a list of zeros numbers the constant

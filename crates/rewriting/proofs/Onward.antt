@@ -1,23 +1,23 @@
 -- After a step that was taken the buffer holds a sound table of the used length that the step replied.
-use Prim.Native.Nat.{ℕ, suc, _+_, _-_, _*_, _/_, _≤_, _<_, max}
-use mathlib.Core.Path.{_≡_, refl, sym, ap, _∙_}
-use mathlib.Core.List.{List, _++_}
+use Prim.Native.Nat.{ℕ, _+_, _-_, _*_, _/_, _≤_, _<_}
+use mathlib.Core.Path.{_≡_, refl, sym, _∙_}
+use mathlib.Core.List.{List}
 use native.Mathlib.Omega.{arith}
-use lib.ListN.{length, drop, replicate, length-append, length-drop, length-replicate}
+use lib.ListN.{length, length-append, length-drop, length-replicate}
 use lib.Seq.{ext-getD}
-use Rattle.majority.specs.Table.{blank, recordAt}
+use Rattle.majority.specs.Table.{blank}
 use Rattle.majority.specs.Check.{Reply, accepted, refused, andThen, count}
 use Rattle.majority.specs.declared.Record.{Record}
 use Rattle.majority.specs.declared.Counts.{Counts}
-use Rattle.majority.proofs.Accepted.{counts, accepts}
+use Rattle.majority.proofs.Accepted.{accepts}
 use Rattle.majority.proofs.Steps.{step-fits, step-accepted}
-use Rattle.tables.specs.Bytes.{tableOf, encode}
-use Rattle.tables.specs.Worths.{Sound}
+use Rattle.tables.specs.Bytes.{tableOf}
+use Rattle.tables.specs.Sound.{Sound}
 use Rattle.tables.proofs.Decoded.{length-table, table-at}
-use Rattle.tables.proofs.Worths.{sound-accepted}
+use Rattle.tables.proofs.Sound.{sound-accepted}
 use Rattle.editing.proofs.Held.{length-encode, encoded-at}
 use Rattle.rewriting.specs.Applied.{stored, afterReply, usedBy, stepIn}
-use Rattle.rewriting.specs.Calls.{stepTable, stepOf, stepBytes}
+use Rattle.rewriting.specs.Calls.{stepOf, stepBytes}
 use Rattle.rewriting.specs.Script.{countsAt}
 use Rattle.rewriting.proofs.Replies.{table-same}
 

@@ -11,12 +11,12 @@ use Rattle.majority.specs.declared.Record.{Record}
 use Rattle.majority.specs.declared.Counts.{Counts}
 use Rattle.majority.proofs.Steps.{step-kept, step-gates}
 use Rattle.tables.specs.Calls.{checkOf}
-use Rattle.tables.specs.Worths.{Sound}
+use Rattle.tables.specs.Sound.{Sound}
 use Rattle.tables.specs.Said.{refusalNumber, refusalRecord, saidCheck}
 use Rattle.tables.specs.declared.Refusal.{Refusal}
 use Rattle.tables.specs.declared.Checked.{Checked}
 use Rattle.tables.specs.declared.Checked.the-variants.{Refused}
-use Rattle.tables.proofs.Worths.{sound-accepted}
+use Rattle.tables.proofs.Sound.{sound-accepted}
 use Rattle.tables.proofs.After.{after-refused}
 use Rattle.rewriting.specs.Applied.{usedBy, stepIn, saidApplied, AppliedTo}
 use Rattle.rewriting.specs.Calls.{stepTable, stepOf, stepBytes}

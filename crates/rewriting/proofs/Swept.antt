@@ -16,9 +16,9 @@ use Rattle.majority.proofs.Order.{order-counts}
 use Rattle.majority.proofs.Accepted.{order-of}
 use Rattle.majority.proofs.Sweep.{left, left-fewer, sweep-kept}
 use Rattle.tables.specs.Bytes.{tableOf}
-use Rattle.tables.specs.Worths.{Sound, tableIn}
+use Rattle.tables.specs.Sound.{Sound, tableIn}
 use Rattle.tables.proofs.Decoded.{length-table, table-at}
-use Rattle.tables.proofs.Worths.{sound-accepted}
+use Rattle.tables.proofs.Sound.{sound-accepted}
 use Rattle.editing.specs.Edited.{holding, changedFrom, editedFrom, clearedFrom}
 use Rattle.editing.proofs.Changed.{changed-length, changed-low, changed-high}
 use Rattle.rewriting.specs.Closing.{newNumber, Closed}

@@ -1,5 +1,5 @@
 -- A step on a table that was checked: what it replies and leaves, refused or taken.
-use Prim.Native.Nat.{ℕ, suc, _+_, _-_, _*_, _≤_, _<_}
+use Prim.Native.Nat.{ℕ, _+_, _-_, _*_, _≤_, _<_}
 use mathlib.Core.Path.{_≡_, refl, sym, ap, _∙_}
 use mathlib.Core.Bool.{Bool, true, false, _||_}
 use mathlib.Core.List.{List}
@@ -9,26 +9,25 @@ use lib.Dec.{eqb}
 use lib.ListN.{length}
 use Rattle.majority.specs.If.{if_then_else_}
 use Rattle.majority.specs.Table.{WellFormed}
-use Rattle.majority.specs.Check.{Reply, accepted, refused, andThen, count}
+use Rattle.majority.specs.Check.{accepted, refused, count}
 use Rattle.majority.specs.Sweep.{sweep}
 use Rattle.majority.specs.Step.{badRule, fieldsFit, hasForm, inserted, rewritten, step}
 use Rattle.majority.specs.declared.Record.{Record}
 use Rattle.majority.specs.declared.Counts.{Counts}
-use Rattle.majority.proofs.Taken.{Taken, taken-step}
+use Rattle.majority.proofs.Taken.{taken-step}
 use Rattle.majority.proofs.Order.{order-counts}
 use Rattle.majority.proofs.Accepted.{order-of}
 use Rattle.majority.proofs.Sweep.{left-fewer, sweep-kept}
 use Rattle.majority.proofs.Steps.{gatesAfter, step-count, step-kept}
-use Rattle.tables.specs.Worths.{Sound, tableIn}
+use Rattle.tables.specs.Sound.{Sound, tableIn}
 use Rattle.tables.specs.Said.{refusalNumber, refusalRecord}
 use Rattle.tables.specs.declared.Refusal.{Refusal}
 use Rattle.tables.proofs.Decoded.{length-table}
-use Rattle.tables.proofs.Worths.{sound-accepted}
+use Rattle.tables.proofs.Sound.{sound-accepted}
 use Rattle.editing.specs.Edited.{holding}
 use Rattle.rewriting.specs.Ready.{Fitting}
 use Rattle.rewriting.specs.Swept.{Swept}
-use Rattle.rewriting.specs.Applied.{stored, afterReply, usedBy, Rewritten, stepIn, saidApplied, AppliedTo}
-use Rattle.rewriting.specs.declared.Applied.{Applied}
+use Rattle.rewriting.specs.Applied.{usedBy, Rewritten, stepIn, AppliedTo}
 use Rattle.rewriting.specs.declared.Applied.the-variants.{Taken as AppliedTaken, Refused as AppliedRefused}
 use Rattle.rewriting.proofs.Storing.{stored-long, stored-short}
 

@@ -1,7 +1,7 @@
 -- A script, one turn at a time: a step that is taken, one that stops it, and the end.
-use Prim.Native.Nat.{ℕ, suc, _+_, _*_, _/_, _≤_, _<_}
+use Prim.Native.Nat.{ℕ, _+_, _*_, _/_, _≤_, _<_}
 use mathlib.Core.Path.{_≡_, refl, sym, ap, _∙_}
-use mathlib.Core.List.{List, [], _∷_}
+use mathlib.Core.List.{List, _∷_}
 use native.Mathlib.Numerals.{add-one}
 use native.Mathlib.Omega.{arith}
 use lib.ListN.{length, drop, drop-of-length-le}
@@ -13,8 +13,7 @@ use Rattle.tables.specs.declared.Refusal.{Refusal}
 use Rattle.tables.proofs.Decoded.{length-table}
 use Rattle.rewriting.specs.Applied.{afterReply}
 use Rattle.rewriting.specs.Calls.{stepTable, stepOf, stepBytes, saidStep}
-use Rattle.rewriting.specs.Script.{Run, finished, stopped, stepsOf, replyTo, bytesAfter, byReply, runFrom, runOf, saidEnd, progressAfter}
-use Rattle.rewriting.specs.declared.Ending.{Ending}
+use Rattle.rewriting.specs.Script.{finished, stepsOf, replyTo, bytesAfter, runFrom, runOf, progressAfter}
 use Rattle.rewriting.specs.declared.Ending.the-variants.{Finished, Stopped}
 use Rattle.rewriting.specs.declared.Progress.{Progress}
 use Rattle.rewriting.specs.declared.Stepped.{Stepped}

@@ -8,7 +8,7 @@ use Rattle.majority.specs.Step.{rewritten, step}
 use Rattle.majority.specs.declared.Record.{Record}
 use Rattle.majority.specs.declared.Counts.{Counts}
 use Rattle.tables.specs.Bytes.{encode}
-use Rattle.tables.specs.Worths.{tableIn}
+use Rattle.tables.specs.Sound.{tableIn}
 use Rattle.tables.specs.Said.{refusalNumber, refusalRecord}
 use Rattle.rewriting.specs.declared.Applied.{Applied}
 use Rattle.rewriting.specs.declared.Applied.the-variants.{Taken, Refused}

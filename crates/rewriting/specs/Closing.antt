@@ -10,7 +10,7 @@ use Rattle.majority.specs.Sweep.{stays, kept, sweep}
 use Rattle.majority.specs.declared.Record.{Record}
 use Rattle.majority.specs.declared.Counts.{Counts}
 use Rattle.tables.specs.Bytes.{recordIn}
-use Rattle.tables.specs.Worths.{tableIn}
+use Rattle.tables.specs.Sound.{tableIn}
 
 -- the new number of node k of the table t; so many records stay, too, before record k
 unfoldable pub newNumber : List Record → ℕ → ℕ

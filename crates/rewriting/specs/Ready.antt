@@ -1,4 +1,4 @@
--- What a rule may rely on when it edits.
+-- What a rule may rely on when it edits: refusals 7 to 11 do not apply (SPEC 3 and 5.1).
 use Prim.Native.Nat.{ℕ, _+_, _*_, _≤_}
 use mathlib.Core.Path.{_≡_}
 use mathlib.Core.Bool.{true, false}
@@ -6,7 +6,7 @@ use mathlib.Core.List.{List}
 use lib.ListN.{length}
 use Rattle.majority.specs.Step.{badRule, fieldsFit, hasForm, inserted}
 use Rattle.majority.specs.declared.Counts.{Counts}
-use Rattle.tables.specs.Worths.{Sound, tableIn}
+use Rattle.tables.specs.Sound.{Sound, tableIn}
 
 -- none of a step's five tests refuses it
 pub record Fitting (xs : List ℕ) (c : Counts) (rule g a b : ℕ) : Type 0 where

@@ -7,7 +7,7 @@ use Rattle.majority.specs.Table.{blank}
 use Rattle.majority.specs.Check.{count}
 use Rattle.majority.specs.Sweep.{sweep}
 use Rattle.majority.specs.declared.Counts.{Counts}
-use Rattle.tables.specs.Worths.{tableIn}
+use Rattle.tables.specs.Sound.{tableIn}
 use Rattle.editing.specs.Edited.{holding}
 
 -- ys is the buffer xs with its table swept, r gates being left and the records that are freed cleared

@@ -12,7 +12,7 @@ use rules::fields_fit;
 use rules::inserted;
 use tables::Refusal;
 ghost use mathlib.Core.Path.{_≡_};
-ghost use Rattle.tables.specs.Worths.{Sound};
+ghost use Rattle.tables.specs.Sound.{Sound};
 ghost use Rattle.rewriting.specs.Ready.{Fitting};
 ghost use Rattle.rewriting.specs.Applied.{usedBy, Rewritten, AppliedTo};
 ghost use Rattle.rewriting.specs.Calls.{saidStep, stepOf, stepBytes};

@@ -6,7 +6,7 @@ use majority::Counts;
 use tables::Refusal;
 use tables::record_at;
 ghost use mathlib.Core.Path.{_≡_};
-ghost use Rattle.tables.specs.Worths.{Sound};
+ghost use Rattle.tables.specs.Sound.{Sound};
 ghost use Rattle.rewriting.specs.Applied.{usedBy};
 ghost use Rattle.rewriting.specs.Script.{stepsOf, runFrom, runOf, stoppedBy, countsAt};
 

@@ -17,8 +17,8 @@ use Rattle.majority.proofs.Rm3Place.{place-begins}
 use Rattle.majority.proofs.Rm3Formed.{translated, translated-formed}
 use Rattle.majority.proofs.Rm3Operands.{node-operands}
 use Rattle.majority.proofs.Rm3Levels.{level3-at-most}
-use Rattle.tables.specs.Worths.{Sound, tableIn}
-use Rattle.tables.proofs.Worths.{sound-accepted, sound-formed}
+use Rattle.tables.specs.Sound.{Sound, tableIn}
+use Rattle.tables.proofs.Sound.{sound-accepted, sound-formed}
 use Rattle.rm3.specs.Turned.{Named}
 use Rattle.rm3.specs.Levelled.{outputDepth, Levelled}
 use Rattle.rm3.proofs.Turning.{turned-end, turned-operands, named-more, named-table, named-end, begins-whole}

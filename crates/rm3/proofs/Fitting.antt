@@ -10,8 +10,8 @@ use Rattle.majority.specs.Check.{accepted, refused}
 use Rattle.majority.specs.declared.Counts.{Counts}
 use Rattle.majority.proofs.Rm3Formed.{translated-formed}
 use Rattle.majority.proofs.Rm3Size.{translated-size}
-use Rattle.tables.specs.Worths.{Sound, tableIn}
-use Rattle.tables.proofs.Worths.{sound-accepted, sound-formed}
+use Rattle.tables.specs.Sound.{Sound, tableIn}
+use Rattle.tables.proofs.Sound.{sound-accepted, sound-formed}
 use Rattle.rm3.specs.Calls.{rm3In}
 use Rattle.rm3.specs.Laid.{operandsIn}
 

@@ -13,8 +13,8 @@ use Rattle.majority.proofs.Formed.{reads-lower}
 use Rattle.majority.specs.Translate.{after}
 use Rattle.majority.proofs.Rm3Nodes.{named}
 use Rattle.majority.proofs.Rm3Size.{translated-size}
-use Rattle.tables.specs.Worths.{Sound, tableIn, Fresh}
-use Rattle.tables.proofs.Worths.{sound-accepted, sound-formed}
+use Rattle.tables.specs.Sound.{Sound, tableIn, Fresh}
+use Rattle.tables.proofs.Sound.{sound-accepted, sound-formed}
 use Rattle.rm3.specs.Laid.{Writes, operandsIn, Gone}
 use Rattle.rm3.proofs.Placing.{gate-front}
 use Rattle.rm3.proofs.Turning.{turned-start, turned-more, turned-table, begins-size}

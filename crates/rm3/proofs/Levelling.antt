@@ -24,8 +24,8 @@ use Rattle.majority.proofs.Rm3Nodes.{named}
 use Rattle.majority.proofs.Rm3Formed.{translated-formed}
 use Rattle.majority.proofs.Rm3Operands.{constant-operand, input-operand}
 use Rattle.majority.proofs.Rm3Levels.{level3-at-most}
-use Rattle.tables.specs.Worths.{Sound, tableIn, Fresh}
-use Rattle.tables.proofs.Worths.{sound-accepted, sound-formed}
+use Rattle.tables.specs.Sound.{Sound, tableIn, Fresh}
+use Rattle.tables.proofs.Sound.{sound-accepted, sound-formed}
 use Rattle.rm3.specs.Turned.{Turned}
 use Rattle.rm3.specs.Levelled.{edgeLevel, gateLevel, Levelled}
 use Rattle.rm3.proofs.Turning.{turned-start, turned-more, turned-operands, turned-table, begins-whole, begins-size}

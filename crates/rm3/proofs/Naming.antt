@@ -13,9 +13,9 @@ use Rattle.majority.specs.declared.Counts.{Counts}
 use Rattle.majority.proofs.Formed.{reads-nodes}
 use Rattle.majority.proofs.Rm3Formed.{translated}
 use Rattle.tables.specs.Bytes.{putRecord}
-use Rattle.tables.specs.Worths.{Sound, tableIn}
+use Rattle.tables.specs.Sound.{Sound, tableIn}
 use Rattle.tables.proofs.Encoded.{Bytes}
-use Rattle.tables.proofs.Worths.{sound-formed}
+use Rattle.tables.proofs.Sound.{sound-formed}
 use Rattle.rm3.specs.Calls.{over}
 use Rattle.rm3.specs.Turned.{Named}
 use Rattle.rm3.specs.Laid.{Laid, Places, operandsIn, Gone, LaidWhole}

@@ -13,7 +13,7 @@ use Rattle.majority.specs.Check.{Reply, accepted, refused, andThen}
 use Rattle.majority.specs.declared.Record.{Record}
 use Rattle.majority.specs.declared.Counts.{Counts}
 use Rattle.tables.specs.Bytes.{tableOf}
-use Rattle.tables.specs.Worths.{tableIn}
+use Rattle.tables.specs.Sound.{tableIn}
 use Rattle.tables.specs.Calls.{checkOf}
 use Rattle.tables.proofs.After.{checked-sound, checked-table}
 use Rattle.rm3.specs.Calls.{rm3In, rm3Of, inBytes, translateOf}

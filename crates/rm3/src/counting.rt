@@ -8,7 +8,7 @@ use tables::record_at;
 ghost use mathlib.Core.Path.{_≡_};
 ghost use Rattle.majority.specs.Count3.{gateOperations, recordOperations};
 ghost use Rattle.majority.specs.Translate.{operations as operationsOf};
-ghost use Rattle.tables.specs.Worths.{Sound, tableIn};
+ghost use Rattle.tables.specs.Sound.{Sound, tableIn};
 
 // How many operations a gate becomes: its helpers and its own.
 fn gate_operations(gate: Record) -> usize

@@ -14,7 +14,7 @@ ghost use Rattle.majority.specs.Edge.{nodeOf};
 ghost use Rattle.majority.specs.Table.{Below};
 ghost use Rattle.majority.specs.Rm3.{depth3};
 ghost use Rattle.majority.specs.Translate.{translation, operations};
-ghost use Rattle.tables.specs.Worths.{Sound, tableIn, Fresh};
+ghost use Rattle.tables.specs.Sound.{Sound, tableIn, Fresh};
 ghost use Rattle.rm3.specs.Levelled.{gateLevel, outputDepth, Levelled};
 
 // The level of an edge's operand: that of its node's, and one more where the edge has a helper.

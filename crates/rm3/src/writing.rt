@@ -24,7 +24,7 @@ ghost use Rattle.majority.specs.Check.{accepted, andThen};
 ghost use Rattle.majority.specs.Edge.{nodeOf};
 ghost use Rattle.majority.specs.Table.{Below};
 ghost use Rattle.majority.specs.Translate.{after, classOf, needsHelper, place as placeOf, gate3, translation};
-ghost use Rattle.tables.specs.Worths.{Sound, SoundAfter, tableIn, Fresh};
+ghost use Rattle.tables.specs.Sound.{Sound, SoundAfter, tableIn, Fresh};
 ghost use Rattle.tables.specs.Said.{saidCheck};
 ghost use Rattle.rm3.specs.Said.{saidTranslate};
 ghost use Rattle.rm3.specs.Calls.{rm3In, inBytes, over};

@@ -9,7 +9,7 @@ use Rattle.majority.specs.declared.Counts.{Counts}
 use Rattle.majority.proofs.Accepted.{acceptance}
 use Rattle.tables.specs.Bytes.{tableOf}
 use Rattle.tables.specs.Calls.{checkOf}
-use Rattle.tables.specs.Worths.{Sound, tableIn}
+use Rattle.tables.specs.Sound.{Sound, tableIn}
 use Rattle.tables.specs.Said.{refusalNumber, refusalRecord, saidCheck}
 use Rattle.tables.specs.declared.Refusal.{Refusal}
 use Rattle.tables.specs.declared.Checked.{Checked}

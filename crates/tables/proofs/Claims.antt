@@ -17,7 +17,7 @@ use Rattle.majority.specs.declared.Counts.{Counts}
 use Rattle.majority.proofs.Logic.{neither, passed}
 use Rattle.tables.specs.Bytes.{tableOf}
 use Rattle.tables.specs.Said.{saidCheck}
-use Rattle.tables.specs.Worths.{Sound, tableIn}
+use Rattle.tables.specs.Sound.{Sound, tableIn}
 use Rattle.tables.specs.declared.Checked.{Checked}
 use Rattle.tables.specs.Calls.{badLength, checkOf}
 use Rattle.tables.specs.Claimed.{otherCounts, checkKinds, checkCounted, checkClaimed, claimedCheck}

@@ -1,7 +1,7 @@
 pub mod Decoded
 pub mod Runs
 pub mod Faults
-pub mod Worths
+pub mod Sound
 pub mod Said
 pub mod Encoded
 pub mod After

@@ -2,6 +2,6 @@ pub mod Field
 pub mod Bytes
 pub mod Runs
 pub mod Said
-pub mod Worths
+pub mod Sound
 pub mod Calls
 pub mod Claimed

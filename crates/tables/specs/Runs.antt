@@ -1,4 +1,4 @@
--- Where a run of records of one kind ends.
+-- Where a run of records of one kind ends (SPEC 2.1: all inputs come first, then all gates, then all outputs).
 use Prim.Native.Nat.{ℕ, _-_}
 use mathlib.Core.Bool.{Bool, not}
 use mathlib.Core.List.{List}

@@ -10,7 +10,6 @@ use lib.Seq.{drop-cons}
 use borrow.Author.Tests.{le-leb, lt-leb, lt-ltb, le-ltb}
 use Rattle.majority.specs.If.{if_then_else_}
 use Rattle.text.specs.Spelled.{digitsAlone, withDigit, withDigits, spelledAfter}
-use Rattle.text.specs.declared.Decimal.{Decimal}
 use Rattle.text.specs.declared.Decimal.the-variants.{Number, Other}
 
 -- more digits make no number smaller

@@ -1,4 +1,4 @@
--- What a line shows.
+-- What a line shows (SPEC 9).
 use Prim.Native.Nat.{ℕ, _/_, _%_}
 use mathlib.Core.Path.{_≡_}
 use mathlib.Core.List.{List, [], _∷_, _++_}

@@ -1,4 +1,4 @@
--- What a text spells in decimal.
+-- What a text spells in decimal (SPEC 9: an assignment as argument).
 use Prim.Native.Nat.{ℕ, _+_, _-_, _*_, _^_}
 use mathlib.Core.Bool.{Bool, true, _&&_}
 use mathlib.Core.List.{List, [], _∷_}

@@ -2,10 +2,10 @@
 use lib.ListN.{length}
 use Rattle.tables.proofs.Put.{put-length}
 use borrow.Author.Needs.{needs}
-use mathlib.Core.Path.{_≡_, refl, sym, ap, _∙_}
+use mathlib.Core.Path.{_≡_, ap, _∙_}
 use native.Mathlib.Omega.{arith}
 use borrow.Author.Tests.{lt-ltb, le-ltb}
-use Prim.Native.Nat.{ℕ, _+_, _-_, _*_, _≤_}
+use Prim.Native.Nat.{_+_, _-_, _≤_}
 use Rattle.majority.specs.Edit.{edges}
 use Rattle.tables.specs.Bytes.{putRecord}
 use Rattle.tables.proofs.Encoded.{Bytes}

@@ -1,9 +1,9 @@
 -- `editing::raised` meets its contract: an edge below 2 * g names a node below g.
 use borrow.Author.Needs.{needs}
-use mathlib.Core.Path.{_≡_, refl, sym, ap, _∙_}
+use mathlib.Core.Path.{_∙_}
 use native.Mathlib.Omega.{arith}
 use borrow.Author.Tests.{lt-ltb, le-ltb}
-use Prim.Native.Nat.{_*_, _<_, _≤_}
+use Prim.Native.Nat.{_<_, _≤_}
 use Rattle.majority.specs.Edge.{nodeOf, raise}
 use Rattle.editing.specs.Edited.{raise16}
 use Rattle.editing.proofs.raised.Statement.{statement}

@@ -1,13 +1,8 @@
 -- `editing::redirect` meets its contract. The loop's invariant: the records below i are redirected, the others as they were.
 use borrow.Author.Needs.{needs}
-use mathlib.Core.Path.{_≡_, refl, sym, ap, _∙_}
-use native.Mathlib.Omega.{arith}
-use borrow.Author.Tests.{ltb-false}
-use Prim.Native.Nat.{ℕ, _-_, _/_, _≤_}
-use lib.Dec.{ltb}
-use lib.ListN.{length}
+use mathlib.Core.Path.{sym, ap, _∙_}
+use Prim.Native.Nat.{_-_, _≤_}
 use mathlib.Core.Logic.{⊎-elim}
-use Rattle.majority.proofs.Logic.{neither}
 use Rattle.tables.proofs.Encoded.{Bytes}
 use Rattle.editing.specs.Edited.{editedFrom}
 use Rattle.editing.proofs.Loops.{Editing, edit-room, edit-start, edit-next, edit-skip, edit-end}

@@ -3,7 +3,6 @@
 use Prim.Native.Nat.{_≤_, _-_}
 use mathlib.Core.Path.{_≡_, _∙_, refl, sym, ap}
 use mathlib.Core.List.{_++_}
-use native.Mathlib.Omega.{arith}
 use lib.ListN.{length, take, drop, length-set}
 use Rattle.text.proofs.Appending.{one-more, at-end, full}
 use borrow.Author.Needs.{needs}

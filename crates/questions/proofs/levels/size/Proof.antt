@@ -1,5 +1,5 @@
 -- `levels::size` meets its contract.
-use Rattle.tables.proofs.Worths.{fresh}
+use Rattle.tables.proofs.Sound.{fresh}
 use Rattle.questions.proofs.levels.size.Statement.{statement}
 use Rattle.questions.proofs.levels.size.Tie as tie
 

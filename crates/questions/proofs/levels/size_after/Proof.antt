@@ -3,7 +3,7 @@ use borrow.Author.Needs.{needs}
 use mathlib.Core.Path.{refl, sym, ap, _∙_}
 use Rattle.majority.specs.Check.{accepted}
 use Rattle.questions.specs.Calls.{sizeOf}
-use Rattle.tables.specs.Worths.{tableIn}
+use Rattle.tables.specs.Sound.{tableIn}
 use Rattle.tables.specs.Said.{saidCheck}
 use Rattle.tables.proofs.After.{then-accepted, then-refused}
 use Rattle.questions.proofs.levels.size_after.Statement.{statement}

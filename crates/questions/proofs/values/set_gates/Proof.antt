@@ -4,9 +4,9 @@ use Prim.Native.Nat.{ℕ, _+_, _-_, _≤_}
 use borrow.Author.Needs.{needs}
 use native.Mathlib.Omega.{arith}
 use Rattle.majority.specs.Value.{values as valuesOf}
-use Rattle.tables.specs.Worths.{tableIn}
+use Rattle.tables.specs.Sound.{tableIn}
 use Rattle.questions.specs.Worths.{Holds, gateValue}
-use Rattle.tables.proofs.Worths.{sound-accepted, read-record}
+use Rattle.tables.proofs.Sound.{sound-accepted, read-record}
 use Rattle.questions.proofs.Worths.{holds-more, reads-room, gate-value, values-begin}
 use Rattle.questions.proofs.values.set_gates.Statement.{statement}
 use Rattle.questions.proofs.values.set_gates.Tie as tie

@@ -2,7 +2,7 @@
 use mathlib.Core.Path.{sym, ap, _∙_}
 use mathlib.Core.Bool.{false}
 use Rattle.majority.specs.Check.{accepted}
-use Rattle.tables.proofs.Worths.{fresh, sound-accepted}
+use Rattle.tables.proofs.Sound.{fresh, sound-accepted}
 use Rattle.questions.proofs.values.value.Statement.{statement}
 use Rattle.questions.proofs.values.value.Tie as tie
 

@@ -2,7 +2,7 @@
 use borrow.Author.Needs.{needs}
 use mathlib.Core.Path.{refl, sym, ap, _∙_}
 use Rattle.questions.specs.Calls.{valueOf}
-use Rattle.tables.specs.Worths.{tableIn}
+use Rattle.tables.specs.Sound.{tableIn}
 use Rattle.tables.specs.Said.{saidCheck}
 use Rattle.tables.proofs.After.{then-accepted, then-refused}
 use Rattle.questions.proofs.values.value_after.Statement.{statement}

@@ -1,6 +1,6 @@
 -- `Progress::after` meets its contract: one case for each outcome.
 use borrow.Author.Needs.{needs}
-use mathlib.Core.Path.{_≡_, refl, sym, ap, _∙_}
+use mathlib.Core.Path.{sym, ap}
 use Rattle.rewriting.specs.Script.{progressAfter}
 use Rattle.rewriting.proofs.Progress.after.Statement.{statement}
 use Rattle.rewriting.proofs.Progress.after.Tie as tie

@@ -7,7 +7,7 @@ use borrow.Author.Tests.{not-true, not-false}
 use Rattle.majority.specs.Step.{inserted}
 use Rattle.tables.specs.declared.Refusal.the-variants.{Rule, Field, Form, Gates, Room}
 use Rattle.tables.proofs.Decoded.{length-table}
-use Rattle.tables.proofs.Worths.{sound-accepted}
+use Rattle.tables.proofs.Sound.{sound-accepted}
 use Rattle.rewriting.specs.Ready.{Fitting}
 use Rattle.rewriting.proofs.Gate.{form-at}
 use Rattle.rewriting.proofs.Taking.{few-more, applied-taken, applied-refused, refuse-7, refuse-8, refuse-9, refuse-10, refuse-11}

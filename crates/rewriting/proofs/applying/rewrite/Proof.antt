@@ -3,7 +3,7 @@ use borrow.Author.Needs.{needs}
 use mathlib.Core.Path.{ap}
 use native.Mathlib.Omega.{arith}
 use Prim.Native.Nat.{ℕ, _+_}
-use Rattle.tables.proofs.Worths.{sound-accepted}
+use Rattle.tables.proofs.Sound.{sound-accepted}
 use Rattle.rewriting.proofs.Fits.{made-8, edited-held}
 use Rattle.rewriting.proofs.Taking.{rewritten-held, rewritten-swept, swept-fewer}
 use Rattle.rewriting.proofs.applying.rewrite.Statement.{statement}

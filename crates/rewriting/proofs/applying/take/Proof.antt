@@ -1,8 +1,8 @@
 -- `applying::take` meets its contract: what was applied, as the step's reply and bytes.
 use borrow.Author.Needs.{needs}
-use mathlib.Core.Path.{_≡_, refl, sym, ap, _∙_}
+use mathlib.Core.Path.{sym}
 use native.Mathlib.Omega.{arith}
-use Rattle.tables.proofs.Worths.{sound-accepted}
+use Rattle.tables.proofs.Sound.{sound-accepted}
 use Rattle.rewriting.proofs.Replies.{taken-made, step-leaves, step-replies, step-refuses}
 use Rattle.rewriting.proofs.applying.take.Statement.{statement}
 use Rattle.rewriting.proofs.applying.take.Tie as tie

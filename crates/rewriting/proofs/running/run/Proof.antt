@@ -1,15 +1,13 @@
 -- `running::run` meets its contract. What is left of the script decides; the table so far is sound, and of the progress' used length.
-use Prim.Native.Nat.{ℕ, _+_, _-_, _*_, _/_, _≤_, _<_}
+use Prim.Native.Nat.{ℕ, _+_, _-_, _/_, _≤_}
 use mathlib.Core.List.{List, _∷_}
 use Rattle.majority.specs.declared.Record.{Record}
-use Rattle.rewriting.specs.Calls.{stepOf}
 use Rattle.rewriting.specs.declared.Ending.{Ending}
 use borrow.Author.Needs.{needs}
 use mathlib.Core.Path.{_≡_, refl, sym, ap, _∙_}
 use native.Mathlib.Omega.{arith}
 use lib.ListN.{length, drop}
-use Rattle.tables.specs.Worths.{Sound}
-use Rattle.tables.proofs.Worths.{sound-accepted}
+use Rattle.tables.specs.Sound.{Sound}
 use Rattle.rewriting.specs.Applied.{usedBy}
 use Rattle.rewriting.specs.Script.{stepsOf, runFrom, countsAt, replyTo, bytesAfter, runOf, saidEnd}
 use Rattle.rewriting.specs.declared.Ending.the-variants.{Finished}

@@ -5,7 +5,7 @@ use mathlib.Core.Logic.{⊎-elim}
 use Prim.Native.Nat.{ℕ, _+_, _-_, _≤_}
 use native.Mathlib.Omega.{arith}
 use Rattle.majority.proofs.Formed.{below-more}
-use Rattle.tables.proofs.Worths.{sound-accepted}
+use Rattle.tables.proofs.Sound.{sound-accepted}
 use Rattle.rewriting.specs.Closing.{ClosedUp}
 use Rattle.rewriting.proofs.Closing.{close-start, close-below, close-place, close-keep, close-drop}
 use Rattle.rewriting.proofs.sweeping.close_gates.Statement.{statement}

@@ -4,8 +4,8 @@ use mathlib.Core.Path.{_∙_}
 use mathlib.Core.Logic.{⊎-elim}
 use Prim.Native.Nat.{_+_, _≤_}
 use native.Mathlib.Omega.{arith}
-use Rattle.tables.specs.Worths.{tableIn}
-use Rattle.tables.proofs.Worths.{sound-accepted}
+use Rattle.tables.specs.Sound.{tableIn}
+use Rattle.tables.proofs.Sound.{sound-accepted}
 use Rattle.rewriting.specs.Marks.{reachedBy, Marked}
 use Rattle.rewriting.proofs.Marks.{read-below, mark-gate, mark-skip, mark-end}
 use Rattle.rewriting.proofs.sweeping.mark_gates.Statement.{statement}

@@ -2,7 +2,7 @@
 use mathlib.Core.Bool.{false}
 use native.Mathlib.Omega.{arith}
 use Rattle.majority.proofs.Sweep.{left-fewer}
-use Rattle.tables.proofs.Worths.{fresh, sound-accepted}
+use Rattle.tables.proofs.Sound.{fresh, sound-accepted}
 use Rattle.rewriting.proofs.Swept.{outputs-begin, swept}
 use borrow.Author.Needs.{needs}
 use Rattle.rewriting.proofs.sweeping.sweep.Statement.{statement}

@@ -7,8 +7,8 @@ use lib.ListN.{take}
 use lib.Seq.{take-all}
 use Rattle.majority.specs.Count3.{recordOperations, total}
 use Rattle.majority.proofs.Rm3Size.{operations-counted}
-use Rattle.tables.specs.Worths.{tableIn}
-use Rattle.tables.proofs.Worths.{sound-formed, read-record}
+use Rattle.tables.specs.Sound.{tableIn}
+use Rattle.tables.proofs.Sound.{sound-formed, read-record}
 use Rattle.rm3.proofs.CountHelpers.{record-most, counted-more}
 use Rattle.rm3.proofs.counting.operations.Statement.{statement}
 use Rattle.rm3.proofs.counting.operations.Tie as tie

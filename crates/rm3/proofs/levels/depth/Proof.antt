@@ -1,6 +1,6 @@
 -- `levels::depth` meets its contract.
 use borrow.Author.Needs.{needs}
-use Rattle.tables.proofs.Worths.{fresh}
+use Rattle.tables.proofs.Sound.{fresh}
 use Rattle.rm3.proofs.levels.depth.Statement.{statement}
 use Rattle.rm3.proofs.levels.depth.Tie as tie
 

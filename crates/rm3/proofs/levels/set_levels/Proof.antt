@@ -4,8 +4,8 @@ use Prim.Native.Nat.{ℕ, _+_, _-_, _≤_}
 use native.Mathlib.Omega.{arith}
 use borrow.Author.Needs.{needs}
 use Rattle.majority.proofs.Formed.{below-more, reads-lower}
-use Rattle.tables.specs.Worths.{tableIn}
-use Rattle.tables.proofs.Worths.{sound-accepted, sound-formed, read-record}
+use Rattle.tables.specs.Sound.{tableIn}
+use Rattle.tables.proofs.Sound.{sound-accepted, sound-formed, read-record}
 use Rattle.rm3.specs.Levelled.{gateLevel, Levelled}
 use Rattle.rm3.proofs.Levelling.{levelled-start, level-small, levelled-more}
 use Rattle.rm3.proofs.levels.set_levels.Statement.{statement}

@@ -1,7 +1,7 @@
 -- `writing::write` meets its contract: first what stands for the nodes, then the outputs with their helpers.
 use native.Mathlib.Omega.{arith}
 use borrow.Author.Needs.{needs}
-use Rattle.tables.proofs.Worths.{fresh}
+use Rattle.tables.proofs.Sound.{fresh}
 use Rattle.rm3.proofs.Naming.{laid-over}
 use Rattle.rm3.proofs.writing.write.Statement.{statement}
 use Rattle.rm3.proofs.writing.write.Tie as tie

@@ -1,10 +1,6 @@
 -- `fields::a_fits` meets its contract: each return is one case of the definition.
 use borrow.Author.Needs.{needs}
-use mathlib.Core.Path.{_≡_, refl, sym, ap, _∙_}
 use borrow.Author.Tests.{eq-eqb, ne-eqb}
-use Prim.Native.Nat.{_<_}
-use mathlib.Core.Bool.{Bool, _&&_}
-use lib.Dec.{ltb}
 use Rattle.rules.proofs.fields.a_fits.Statement.{statement}
 use Rattle.rules.proofs.fields.a_fits.Tie as tie
 

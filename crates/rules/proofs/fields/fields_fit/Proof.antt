@@ -1,6 +1,5 @@
 -- `fields::fields_fit` meets its contract.
 use borrow.Author.Needs.{needs}
-use mathlib.Core.Path.{_≡_, refl, sym, ap, _∙_}
 use Rattle.majority.specs.Step.{fieldsFit}
 use Rattle.rules.proofs.fields.fields_fit.Statement.{statement}
 use Rattle.rules.proofs.fields.fields_fit.Tie as tie

@@ -1,6 +1,5 @@
 -- `fields::gate_fits` meets its contract: each return is one case of the definition.
 use borrow.Author.Needs.{needs}
-use mathlib.Core.Path.{_≡_, refl, sym, ap, _∙_}
 use borrow.Author.Tests.{eq-eqb, ne-eqb}
 use Rattle.rules.proofs.fields.gate_fits.Statement.{statement}
 use Rattle.rules.proofs.fields.gate_fits.Tie as tie

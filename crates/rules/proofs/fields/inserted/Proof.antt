@@ -1,6 +1,4 @@
 -- `fields::inserted` meets its contract: each return is one case of the definition.
-use borrow.Author.Needs.{needs}
-use mathlib.Core.Path.{_≡_, refl, sym, ap, _∙_}
 use borrow.Author.Tests.{eq-eqb, ne-eqb}
 use Rattle.rules.proofs.fields.inserted.Statement.{statement}
 use Rattle.rules.proofs.fields.inserted.Tie as tie

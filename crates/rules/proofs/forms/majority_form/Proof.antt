@@ -1,6 +1,5 @@
 -- `forms::majority_form` meets its contract.
 use borrow.Author.Needs.{needs}
-use mathlib.Core.Path.{_≡_, refl, sym, ap, _∙_}
 use Rattle.majority.specs.Rules.{majorityForm}
 use Rattle.rules.proofs.forms.majority_form.Statement.{statement}
 use Rattle.rules.proofs.forms.majority_form.Tie as tie

@@ -1,6 +1,5 @@
 -- `forms::plain_gate` meets its contract.
 use borrow.Author.Needs.{needs}
-use mathlib.Core.Path.{_≡_, refl, sym, ap, _∙_}
 use Rattle.rules.proofs.forms.plain_gate.Statement.{statement}
 use Rattle.rules.proofs.forms.plain_gate.Tie as tie
 

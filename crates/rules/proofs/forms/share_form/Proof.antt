@@ -1,6 +1,5 @@
 -- `forms::share_form` meets its contract.
 use borrow.Author.Needs.{needs}
-use mathlib.Core.Path.{_≡_, refl, sym, ap, _∙_}
 use Rattle.majority.specs.Rules.{shareForm}
 use Rattle.rules.proofs.forms.share_form.Statement.{statement}
 use Rattle.rules.proofs.forms.share_form.Tie as tie

@@ -1,6 +1,5 @@
 -- `gates::exchanged` meets its contract: each return is one case of the definition.
 use borrow.Author.Needs.{needs}
-use mathlib.Core.Path.{_≡_, refl, sym, ap, ap₂, _∙_}
 use borrow.Author.Tests.{eq-eqb, ne-eqb}
 use Rattle.rules.proofs.gates.exchanged.Statement.{statement}
 use Rattle.rules.proofs.gates.exchanged.Tie as tie

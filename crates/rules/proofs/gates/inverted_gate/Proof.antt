@@ -1,6 +1,5 @@
 -- `gates::inverted_gate` meets its contract, edge by edge.
 use borrow.Author.Needs.{needs}
-use mathlib.Core.Path.{_≡_, refl, sym, ap, ap₂, _∙_}
 use Rattle.rules.proofs.gates.inverted_gate.Statement.{statement}
 use Rattle.rules.proofs.gates.inverted_gate.Tie as tie
 

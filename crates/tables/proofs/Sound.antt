@@ -9,7 +9,7 @@ use Rattle.majority.specs.Table.{recordAt, WellFormed}
 use Rattle.majority.specs.declared.Record.{Record}
 use Rattle.majority.specs.declared.Counts.{Counts}
 use Rattle.majority.proofs.Accepted.{Accepted, acceptance}
-use Rattle.tables.specs.Worths.{Sound, tableIn, Fresh}
+use Rattle.tables.specs.Sound.{Sound, tableIn, Fresh}
 use Rattle.tables.specs.Bytes.{recordIn, tableOf}
 use Rattle.tables.proofs.Decoded.{table-at}
 

@@ -1,4 +1,4 @@
--- What a call knows of an accepted table, and the lists in which it works out what nodes are worth.
+-- What a call knows of an accepted table (SPEC 3), and the lists in which it works out what nodes are worth.
 use Prim.Native.Nat.{ℕ, _+_, _*_, _≤_}
 use mathlib.Core.Path.{_≡_}
 use mathlib.Core.List.{List}
