@@ -1,5 +1,6 @@
 -- `forms::has_form` meets its contract: each return is one case of the definition.
 use borrow.Author.Needs.{needs}
+use mathlib.Core.Path.{_∙_}
 use borrow.Author.Tests.{eq-eqb, ne-eqb}
 use Rattle.majority.specs.Step.{hasForm}
 use Rattle.changes.proofs.forms.has_form.Statement.{statement}
@@ -13,7 +14,7 @@ majority-form-requires c κs = search needs
 
 returns : tie.Need-returns
 unfolding hasForm
-returns c = rw (eq-eqb _ _ (c .before .before .if1 .taken), ← c .before .node-record .ensures) (c .majority-form .ensures)
+returns c = rw (eq-eqb _ _ (c .before .before .if1 .taken)) (c .majority-form .ensures ∙ rw (c .before .node-record .ensures))
 
 node-record-requires-2 : tie.Need-node-record-requires-2
 node-record-requires-2 c κs = search needs
@@ -26,7 +27,7 @@ associativity-form-requires c κs = search needs
 
 returns-2 : tie.Need-returns-2
 unfolding hasForm
-returns-2 c = rw (ne-eqb _ _ (c .before .before .before .before .if1 .left), eq-eqb _ _ (c .before .before .before .if2 .taken), ← c .before .before .node-record2 .ensures, ← c .before .named-record .ensures) (c .associativity-form .ensures)
+returns-2 c = rw (ne-eqb _ _ (c .before .before .before .before .if1 .left), eq-eqb _ _ (c .before .before .before .if2 .taken)) (c .associativity-form .ensures ∙ rw (c .before .named-record .ensures, c .before .before .node-record2 .ensures))
 
 node-record-requires-3 : tie.Need-node-record-requires-3
 node-record-requires-3 c κs = search needs
@@ -36,7 +37,7 @@ outward-form-requires c κs = search needs
 
 returns-3 : tie.Need-returns-3
 unfolding hasForm
-returns-3 c = rw (ne-eqb _ _ (c .before .before .before .before .if1 .left), ne-eqb _ _ (c .before .before .before .if2 .left), eq-eqb _ _ (c .before .before .if3 .taken), ← c .before .node-record3 .ensures) (c .outward-form .ensures)
+returns-3 c = rw (ne-eqb _ _ (c .before .before .before .before .if1 .left), ne-eqb _ _ (c .before .before .before .if2 .left), eq-eqb _ _ (c .before .before .if3 .taken)) (c .outward-form .ensures ∙ rw (c .before .node-record3 .ensures))
 
 node-record-requires-4 : tie.Need-node-record-requires-4
 node-record-requires-4 c κs = search needs
@@ -52,7 +53,7 @@ inward-form-requires c κs = search needs
 
 returns-4 : tie.Need-returns-4
 unfolding hasForm
-returns-4 c = rw (ne-eqb _ _ (c .before .before .before .before .before .before .before .if1 .left), ne-eqb _ _ (c .before .before .before .before .before .before .if2 .left), ne-eqb _ _ (c .before .before .before .before .before .if3 .left), eq-eqb _ _ (c .before .before .before .before .if4 .taken), ← c .before .before .before .node-record4 .ensures, ← c .before .before .named-record2 .ensures, ← c .before .named-record3 .ensures) (c .inward-form .ensures)
+returns-4 c = rw (ne-eqb _ _ (c .before .before .before .before .before .before .before .if1 .left), ne-eqb _ _ (c .before .before .before .before .before .before .if2 .left), ne-eqb _ _ (c .before .before .before .before .before .if3 .left), eq-eqb _ _ (c .before .before .before .before .if4 .taken)) (c .inward-form .ensures ∙ rw (c .before .before .named-record2 .ensures, c .before .named-record3 .ensures, c .before .before .before .node-record4 .ensures))
 
 node-record-requires-5 : tie.Need-node-record-requires-5
 node-record-requires-5 c κs = search needs
@@ -65,7 +66,7 @@ share-form-requires c κs = search needs
 
 returns-5 : tie.Need-returns-5
 unfolding hasForm
-returns-5 c = rw (ne-eqb _ _ (c .before .before .before .before .before .before .before .if1 .left), ne-eqb _ _ (c .before .before .before .before .before .before .if2 .left), ne-eqb _ _ (c .before .before .before .before .before .if3 .left), ne-eqb _ _ (c .before .before .before .before .if4 .left), eq-eqb _ _ (c .before .before .before .if5 .taken), ← c .before .before .node-record5 .ensures, ← c .before .node-record6 .ensures) (c .share-form .ensures)
+returns-5 c = rw (ne-eqb _ _ (c .before .before .before .before .before .before .before .if1 .left), ne-eqb _ _ (c .before .before .before .before .before .before .if2 .left), ne-eqb _ _ (c .before .before .before .before .before .if3 .left), ne-eqb _ _ (c .before .before .before .before .if4 .left), eq-eqb _ _ (c .before .before .before .if5 .taken)) (c .share-form .ensures ∙ rw (c .before .before .node-record5 .ensures, c .before .node-record6 .ensures))
 
 returns-6 : tie.Need-returns-6
 unfolding hasForm
