@@ -9,12 +9,8 @@ use Rattle.majority.specs.Table.{gate}
 use Rattle.majority.specs.Edit.{edges, nodeRecord}
 use Rattle.majority.specs.Rules.{plain, named, exchanged, majorityEdge}
 use Rattle.majority.specs.declared.Record.{Record}
-use Rattle.tables.specs.Bytes.{tableOf, putRecord}
+use Rattle.tables.specs.Bytes.{recordsOf, putRecord}
 use Rattle.editing.specs.Edited.{redirectedFrom, insertedAt}
-
--- the records that the bytes xs hold whole
-abbrev pub recordsOf : List ℕ → List Record
-recordsOf xs = tableOf xs (length xs / 8)
 
 -- the uninverted edge to node k, and the node after it, of 16 bits
 unfoldable pub plain16 : ℕ → ℕ

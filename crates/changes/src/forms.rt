@@ -13,7 +13,7 @@ use rules::outward_form;
 use rules::share_form;
 ghost use mathlib.Core.Path.{_≡_};
 ghost use Rattle.majority.specs.Step.{hasForm};
-ghost use Rattle.changes.specs.Changes.{recordsOf};
+ghost use Rattle.tables.specs.Bytes.{recordsOf};
 
 // The gate has the rule's form, among so many inputs. The rules that ask for none are exchange, inversion and sweep.
 pub fn has_form(s: &[u8], inputs: usize, rule: u16, gate: u16, a: u16) -> bool

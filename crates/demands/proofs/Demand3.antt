@@ -3,11 +3,11 @@ use Prim.Native.Nat.{ℕ, suc, _-_, _/_}
 use mathlib.Core.Path.{_≡_}
 use mathlib.Core.List.{List, [], _∷_}
 use native.Mathlib.Omega.{arith}
-use Rattle.majority.specs.Check.{accepted}
+use Rattle.majority.specs.Check.{counts, accepted}
 use Rattle.tables.specs.Bytes.{tableOf}
 use Rattle.tables.specs.Calls.{checkOf}
 use Rattle.rewriting.specs.Script.{scriptRun}
-use Rattle.demands.specs.Demand3.{After, counts, runScripts, Keeps, Demand3}
+use Rattle.demands.specs.Demand3.{After, runScripts, Keeps, Demand3}
 use Rattle.demands.proofs.OneStep.{Between, between-same}
 use Rattle.demands.proofs.OneScript.{between-then, between-script}
 

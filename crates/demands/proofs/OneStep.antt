@@ -8,7 +8,7 @@ use lib.ListN.{length, length-append, length-drop, length-replicate}
 use lib.Seq.{ext-getD}
 use Rattle.majority.specs.Table.{blank}
 use Rattle.majority.specs.Kept.{Kept}
-use Rattle.majority.specs.Check.{Reply, accepted, refused, andThen, checkRecords, count}
+use Rattle.majority.specs.Check.{counts, Reply, accepted, refused, andThen, checkRecords, count}
 use Rattle.majority.specs.Step.{step, deepens}
 use Rattle.majority.specs.declared.Record.{Record}
 use Rattle.majority.proofs.Accepted.{Accepted, acceptance, accepts}
@@ -22,7 +22,6 @@ use Rattle.editing.proofs.Held.{length-encode, encoded-at}
 use Rattle.rewriting.specs.Applied.{stored, afterReply}
 use Rattle.rewriting.specs.Calls.{stepTable, stepOf, stepBytes}
 use Rattle.rewriting.specs.Script.{replyTo, bytesAfter}
-use Rattle.demands.specs.Demand3.{counts}
 
 -- from the buffer xs, whose table has m gates, to the buffer ys: ys holds an accepted table, and depth has risen by at most δ
 pub record Between (δ n m o : ℕ) (xs : List ℕ) (used : ℕ) (ys : List ℕ) (end : ℕ) : Type 0 where

@@ -6,12 +6,11 @@ use lib.ListN.{take}
 use Rattle.majority.specs.Table.{Below, WellFormed}
 use Rattle.majority.specs.Value.{outputValue}
 use Rattle.majority.specs.Level.{depth}
-use Rattle.majority.specs.Check.{accepted}
+use Rattle.majority.specs.Check.{accepted, counts}
 use Rattle.majority.specs.Edit.{nodeRecord}
 use Rattle.majority.specs.Step.{deepens}
 use Rattle.majority.specs.Rm3.{WellFormed3, outputValue3, depth3}
 use Rattle.majority.specs.declared.Record.{Record}
-use Rattle.majority.specs.declared.Counts.{Counts}
 use Rattle.tables.specs.Bytes.{tableOf}
 use Rattle.tables.specs.Calls.{checkOf}
 use Rattle.rewriting.specs.Script.{Run, stepsOf, scriptRun}
@@ -43,10 +42,6 @@ runScripts xs used (script ∷ scripts) =
     let run = scriptRun xs used script in
     let rest = runScripts (run .bytes) (run .used) scripts in
     record { bytes = rest .bytes; used = rest .used; deepened = deepeningTaken script run + rest .deepened }
-
--- the counts as one value
-abbrev pub counts : ℕ → ℕ → ℕ → Counts
-counts n m o = record { inputs = n; gates = m; outputs = o }
 
 -- from a first table of n inputs, m gates and o outputs to what scripts leave
 pub record Keeps (n m o : ℕ) (first : List Record) (after : After) : Type 0 where

@@ -13,16 +13,12 @@ use Rattle.majority.specs.If.{if_then_else_}
 use Rattle.majority.specs.Edge.{nodeOf}
 use Rattle.majority.specs.Seek.{first}
 use Rattle.majority.specs.Table.{input, output, recordAt, Below, WellFormed, WithinLimits}
-use Rattle.majority.specs.Check.{accepted, badKindAt, count, countsOf, badCounts, past, faultOf, faultyAt, checkFields, checkRecords}
+use Rattle.majority.specs.Check.{counts, accepted, badKindAt, count, countsOf, badCounts, past, faultOf, faultyAt, checkFields, checkRecords}
 use Rattle.majority.specs.declared.Record.{Record}
 use Rattle.majority.specs.declared.Counts.{Counts}
 use Rattle.majority.proofs.Logic.{neither, passed}
 use Rattle.majority.proofs.Seek.{all-fail, nothing-there}
 use Rattle.majority.proofs.Order.{InOrder, in-order, all-counted, order-good, order-counts}
-
--- the counts as one value
-abbrev pub counts : ℕ → ℕ → ℕ → Counts
-counts n m o = record { inputs = n; gates = m; outputs = o }
 
 accepted-once : (c d : Counts) → accepted c ≡ accepted d → c ≡ d
 accepted-once c d e = cc

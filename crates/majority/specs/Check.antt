@@ -38,8 +38,12 @@ unfoldable pub count : ℕ → List Record → ℕ
 count k [] = 0
 count k (r ∷ rs) = (if eqb (r .kind) k then 1 else 0) + count k rs
 
+-- three counts as one value
+abbrev pub counts : ℕ → ℕ → ℕ → Counts
+counts n m o = record { inputs = n; gates = m; outputs = o }
+
 abbrev pub countsOf : List Record → Counts
-countsOf rs = record { inputs = count 1 rs; gates = count 2 rs; outputs = count 3 rs }
+countsOf rs = counts (count 1 rs) (count 2 rs) (count 3 rs)
 
 -- 3: a count is past its limit, or there is no output
 abbrev pub badCounts : Counts → Bool

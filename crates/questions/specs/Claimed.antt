@@ -1,16 +1,15 @@
 -- What the questions reply on records whose counts are claimed (SPEC 7).
-use Prim.Native.Nat.{ℕ, _/_}
+use Prim.Native.Nat.{ℕ}
 use mathlib.Core.List.{List}
-use lib.ListN.{length}
 use Rattle.majority.specs.Check.{Reply, accepted, andThen}
 use Rattle.majority.specs.declared.Counts.{Counts}
-use Rattle.tables.specs.Bytes.{tableOf}
+use Rattle.tables.specs.Bytes.{recordsOf}
 use Rattle.tables.specs.Claimed.{claimedCheck}
 use Rattle.questions.specs.declared.Size.{Size}
 use Rattle.questions.specs.Calls.{valueOf, sizeOf}
 
 unfoldable pub claimedEvaluate : List ℕ → Counts → ℕ → Reply ℕ
-claimedEvaluate xs claim a = andThen (claimedCheck xs claim) (valueOf a (tableOf xs (length xs / 8)))
+claimedEvaluate xs claim a = andThen (claimedCheck xs claim) (valueOf a (recordsOf xs))
 
 unfoldable pub claimedReport : List ℕ → Counts → Reply Size
-claimedReport xs claim = andThen (claimedCheck xs claim) (λ c. accepted (sizeOf (tableOf xs (length xs / 8)) c))
+claimedReport xs claim = andThen (claimedCheck xs claim) (λ c. accepted (sizeOf (recordsOf xs) c))

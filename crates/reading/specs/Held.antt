@@ -2,7 +2,7 @@
 use Prim.Native.Nat.{ℕ, _/_}
 use mathlib.Core.List.{List}
 use lib.ListN.{take}
-use Rattle.majority.specs.Check.{Reply, accepted, refused, andThen}
+use Rattle.majority.specs.Check.{Reply, accepted, refused, andThen, counts}
 use Rattle.majority.specs.declared.Counts.{Counts}
 use Rattle.tables.specs.Bytes.{tableOf}
 use Rattle.tables.specs.Calls.{checkOf}
@@ -13,7 +13,7 @@ use Rattle.reading.specs.declared.Reading.{Reading}
 
 -- the claim of three counts
 abbrev pub claim : ℕ → ℕ → ℕ → Counts
-claim inputs gates outputs = record { inputs = inputs; gates = gates; outputs = outputs }
+claim inputs gates outputs = counts inputs gates outputs
 
 -- the claim of a reading
 abbrev pub claimed : Reading → Counts

@@ -21,7 +21,7 @@ use Rattle.majority.proofs.Taken.{known-rule, gate-field, share-field}
 use Rattle.tables.specs.Sound.{Sound, tableIn}
 use Rattle.tables.proofs.Decoded.{length-table}
 use Rattle.tables.proofs.Sound.{sound-accepted, read-record}
-use Rattle.changes.specs.Changes.{recordsOf}
+use Rattle.tables.specs.Bytes.{recordsOf}
 
 -- the buffer xs has an accepted table with these counts, of which node g is a gate
 pub record AtGate (xs : List ℕ) (c : Counts) (g : ℕ) : Type 0 where

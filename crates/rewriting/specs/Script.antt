@@ -8,7 +8,7 @@ use Rattle.majority.specs.If.{if_then_else_}
 use Rattle.majority.specs.Check.{Reply, accepted, refused}
 use Rattle.majority.specs.declared.Record.{Record}
 use Rattle.majority.specs.declared.Counts.{Counts}
-use Rattle.tables.specs.Bytes.{tableOf}
+use Rattle.tables.specs.Bytes.{recordsOf}
 use Rattle.tables.specs.Calls.{checkOf}
 use Rattle.tables.specs.Said.{refusalNumber, refusalRecord}
 use Rattle.tables.specs.declared.Refusal.{Refusal}
@@ -33,7 +33,7 @@ pub record Run : Type 0 where
 
 -- the steps of a script: a step is read as a record is, its kind being the rule and its fields gate, a and b
 abbrev pub stepsOf : List ℕ → List Record
-stepsOf steps = tableOf steps (length steps / 8)
+stepsOf steps = recordsOf steps
 
 -- the reply and the bytes of one step
 abbrev pub replyTo : List ℕ → ℕ → Record → Reply ℕ

@@ -1,17 +1,17 @@
 -- What `translate_as` replies on records whose counts are claimed, and the bytes that it leaves (SPEC 7).
-use Prim.Native.Nat.{ℕ, _/_}
+use Prim.Native.Nat.{ℕ}
 use mathlib.Core.List.{List}
 use lib.ListN.{length}
 use Rattle.majority.specs.Check.{Reply, andThen}
 use Rattle.majority.specs.declared.Record.{Record}
 use Rattle.majority.specs.declared.Counts.{Counts}
-use Rattle.tables.specs.Bytes.{tableOf}
+use Rattle.tables.specs.Bytes.{recordsOf}
 use Rattle.tables.specs.Claimed.{claimedCheck}
 use Rattle.rm3.specs.Calls.{rm3In, inBytes, over}
 
 -- the RM3 table of all bytes of xs, or the refusal
 unfoldable pub claimedRm3 : List ℕ → Counts → ℕ → Reply (List Record)
-claimedRm3 xs claim room = andThen (claimedCheck xs claim) (rm3In room (tableOf xs (length xs / 8)))
+claimedRm3 xs claim room = andThen (claimedCheck xs claim) (rm3In room (recordsOf xs))
 
 unfoldable pub claimedTranslate : List ℕ → Counts → ℕ → Reply ℕ
 claimedTranslate xs claim room = andThen (claimedRm3 xs claim room) inBytes

@@ -11,11 +11,10 @@ use lib.Dec.{ltb}
 use lib.ListN.{length}
 use Rattle.majority.specs.Seek.{first}
 use Rattle.majority.specs.Table.{recordAt}
-use Rattle.majority.specs.Check.{accepted, refused, badKind, kindBefore, badKindAt}
+use Rattle.majority.specs.Check.{counts, accepted, refused, badKind, kindBefore, badKindAt}
 use Rattle.majority.specs.declared.Record.{Record}
 use Rattle.majority.proofs.Seek.{found-at, found-in, fails-before, holds-there, nothing-there}
 use Rattle.majority.proofs.Order.{InOrder, order-good, order-counts}
-use Rattle.majority.proofs.Accepted.{counts}
 use Rattle.tables.specs.Runs.{otherKind, runEnd}
 use Rattle.tables.specs.Claimed.{checkKinds}
 

@@ -21,6 +21,10 @@ decode xs i (suc k) = recordIn xs i ∷ decode xs (suc i) k
 abbrev pub tableOf : List ℕ → ℕ → List Record
 tableOf xs n = decode xs 0 n
 
+-- the records that the bytes xs hold whole
+abbrev pub recordsOf : List ℕ → List Record
+recordsOf xs = tableOf xs (length xs / 8)
+
 -- the bytes of a field, and of a record, before others
 abbrev pub fieldBytes : ℕ → List ℕ → List ℕ
 fieldBytes v rest = v % 256 ∷ v / 256 ∷ rest

@@ -1,5 +1,5 @@
 -- What the check replies on records whose counts are claimed (SPEC 7): the used length is that of the bytes, and other counts are refused with 3.
-use Prim.Native.Nat.{ℕ, _/_, _%_}
+use Prim.Native.Nat.{ℕ, _%_}
 use mathlib.Core.Bool.{Bool, not, _||_}
 use mathlib.Core.List.{List}
 use lib.ListN.{length}
@@ -9,7 +9,7 @@ use Rattle.majority.specs.Seek.{first}
 use Rattle.majority.specs.Check.{Reply, accepted, refused, andThen, badKindAt, countsOf, badCounts, checkFields}
 use Rattle.majority.specs.declared.Record.{Record}
 use Rattle.majority.specs.declared.Counts.{Counts}
-use Rattle.tables.specs.Bytes.{tableOf}
+use Rattle.tables.specs.Bytes.{recordsOf}
 
 -- the counts claimed are not those found
 abbrev pub otherCounts : Counts → Counts → Bool
@@ -32,4 +32,4 @@ checkClaimed claim rs = andThen (checkKinds rs) (checkCounted claim rs)
 
 -- the check of all bytes of xs
 unfoldable pub claimedCheck : List ℕ → Counts → Reply Counts
-claimedCheck xs claim = if not (eqb (length xs % 8) 0) then refused 1 0 else checkClaimed claim (tableOf xs (length xs / 8))
+claimedCheck xs claim = if not (eqb (length xs % 8) 0) then refused 1 0 else checkClaimed claim (recordsOf xs)

@@ -3,10 +3,10 @@ use crate::fields::get;
 use crate::fields::put;
 use majority::Record;
 ghost use mathlib.Core.Path.{_≡_};
-ghost use Prim.Native.Nat.{_+_, _*_, _/_, _<_};
+ghost use Prim.Native.Nat.{_+_, _*_, _<_};
 ghost use lib.ListN.{length};
 ghost use Rattle.majority.specs.Table.{recordAt};
-ghost use Rattle.tables.specs.Bytes.{recordIn, tableOf, putFields, putRecord};
+ghost use Rattle.tables.specs.Bytes.{recordIn, recordsOf, putFields, putRecord};
 
 // Record i, which the slice holds whole.
 pub(crate) fn record_in(s: &[u8], i: usize) -> Record
@@ -34,7 +34,7 @@ fn put_fields(s: &mut [u8], i: usize, r: Record)
 
 // Record i, or the blank record where the slice does not hold it whole.
 pub fn record_at(s: &[u8], i: usize) -> Record
-    ensures { λ r. ⌜ r ≡ recordAt (tableOf (now (s .entry)) (length (now (s .entry)) / 8)) i ⌝ }
+    ensures { λ r. ⌜ r ≡ recordAt (recordsOf (now (s .entry))) i ⌝ }
 {
     if i < s.len() / 8 {
         return record_in(s, i);
