@@ -1,8 +1,6 @@
 #!/usr/bin/env python3
 """sheet.py FOLDER: writes P1 to P8 of the sheet of small tables to a folder, the tables as NAME.maj, the scripts as NAME.steps."""
-import pathlib, sys
-
-from pack import packed
+from pack import folder_argument, packed
 
 
 def table(inputs, gates, outputs):
@@ -28,7 +26,7 @@ SCRIPTS = {
 }
 
 if __name__ == "__main__":
-    (folder,) = map(pathlib.Path, sys.argv[1:])
+    folder = folder_argument("sheet.py")
     for name, records in TABLES.items():
         (folder / f"{name}.maj").write_bytes(packed(records))
     for name, steps in SCRIPTS.items():

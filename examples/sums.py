@@ -1,7 +1,7 @@
 #!/usr/bin/env python3
 """sums.py TABLE: asks majpipe for the outputs of an 8-bit adder (see ripple.py) under each assignment, and compares them with
 Python's own sums. It is run with the repository's root as current folder."""
-import itertools, struct, subprocess, sys
+import itertools, pathlib, struct, subprocess, sys
 
 EVALUATE = 2
 
@@ -11,20 +11,30 @@ def ask(pipe, table, assignment):
     request = struct.pack("<BII", EVALUATE, len(table), len(table)) + table + struct.pack("<I", assignment)
     pipe.stdin.write(request)
     pipe.stdin.flush()
-    refusal, record, _, outputs = struct.unpack("<IIII", pipe.stdout.read(16))
+    reply = pipe.stdout.read(16)
+    if len(reply) < 16:
+        sys.exit("sums.py: majpipe ended before it had answered")
+    refusal, record, _, outputs = struct.unpack("<IIII", reply)
     if refusal:
         sys.exit(f"refused {refusal} at {record}")
     return outputs
 
 
-(path,) = sys.argv[1:]
-with open(path, "rb") as file:
-    table = file.read()
-with subprocess.Popen(["./run", "majpipe"], stdin=subprocess.PIPE, stdout=subprocess.PIPE) as pipe:
-    right = 0
-    for carry, a, b in itertools.product((0, 1), range(256), range(256)):
-        outputs = ask(pipe, table, a | b << 8 | carry << 16)
-        if outputs != a + b + carry:
-            sys.exit(f"{a} + {b} + {carry} gives {outputs}")
-        right += 1
-print(right, "sums are right")
+def main():
+    if len(sys.argv) != 2:
+        sys.exit("sums.py: it takes one argument, a table's path; call it as: sums.py TABLE")
+    try:
+        table = pathlib.Path(sys.argv[1]).read_bytes()
+    except OSError as error:
+        sys.exit(f"sums.py: {error.strerror}: {sys.argv[1]}")
+    with subprocess.Popen(["./run", "majpipe"], stdin=subprocess.PIPE, stdout=subprocess.PIPE) as pipe:
+        right = 0
+        for carry, a, b in itertools.product((0, 1), range(256), range(256)):
+            outputs = ask(pipe, table, a | b << 8 | carry << 16)
+            if outputs != a + b + carry:
+                sys.exit(f"{a} + {b} + {carry} gives {outputs}")
+            right += 1
+    print(right, "sums are right")
+
+
+main()

@@ -90,7 +90,10 @@ def wrong(command, shown, room):
 
 def check(document):
     """Runs the commands of a document; answers how many did as shown and how many did not."""
-    lines = document.read_text().splitlines()
+    try:
+        lines = document.read_text().splitlines()
+    except OSError as error:
+        sys.exit(f"documents.py: {error.strerror}: {document}")
     name = document.relative_to(ROOT) if document.is_relative_to(ROOT) else document
     found = list(commands(lines))
     taken = {number for number, _, _ in found}
