@@ -305,44 +305,54 @@ static int by_size(const void *one, const void *other)
     return (a > b) - (a < b);
 }
 
-/* The medians of many rounds, in nanoseconds a call; the sides take turns in going first. */
-static void measure(const struct input *in, double *times)
-{
-    static uint64_t rounds[2][ROUNDS];
-    for (unsigned r = 0; r < ROUNDS; r++)
-        for (unsigned turn = 0; turn < 2; turn++) {
-            unsigned s = (r + turn) % 2;
-            rounds[s][r] = timed(&SIDES[s], in);
-        }
-    for (unsigned s = 0; s < 2; s++) {
-        qsort(rounds[s], ROUNDS, sizeof rounds[s][0], by_size);
-        times[s] = (double)rounds[s][ROUNDS / 2] / copies_of(in);
-    }
-}
-
 static const unsigned SIZES[] = { 16, 128, 256, 512, 1024 };
+
+enum { SIZE_COUNT = sizeof SIZES / sizeof SIZES[0] };
 
 /* The sizes of the table of times: small, middle and largest. */
 static int is_shown(unsigned k) { return k == 0 || k == 2 || k == 4; }
 
+/*
+ * The medians of many rounds, in nanoseconds a call, at each size. A round asks every size of both sides, which take turns in going
+ * first, so that a slow moment of the machine falls on all of them.
+ */
+static void measure(const struct input *ins, double times[SIZE_COUNT][2])
+{
+    static uint64_t rounds[SIZE_COUNT][2][ROUNDS];
+    for (unsigned r = 0; r < ROUNDS; r++)
+        for (unsigned k = 0; k < SIZE_COUNT; k++)
+            for (unsigned turn = 0; turn < 2; turn++) {
+                unsigned s = (r + turn) % 2;
+                rounds[k][s][r] = timed(&SIDES[s], &ins[k]);
+            }
+    for (unsigned k = 0; k < SIZE_COUNT; k++)
+        for (unsigned s = 0; s < 2; s++) {
+            qsort(rounds[k][s], ROUNDS, sizeof rounds[k][s][0], by_size);
+            times[k][s] = (double)rounds[k][s][ROUNDS / 2] / copies_of(&ins[k]);
+        }
+}
+
 static void print_times(const char *mark)
 {
-    static double times[COUNT][5][2];
-    static struct input in;
+    static double times[COUNT][SIZE_COUNT][2];
+    static struct input ins[SIZE_COUNT];
     printf("%-22s %6s %11s %11s %7s%s\n", "call", "gates", "ours, ns", "theirs, ns", "ratio", mark);
-    for (unsigned i = 0; i < COUNT; i++)
-        for (unsigned k = 0; k < 5; k++) {
-            make_input(&in, &ROWS[i], SIZES[k]);
-            compare(&in);
-            measure(&in, times[i][k]);
-            double ours = times[i][k][0], theirs = times[i][k][1];
-            if (is_shown(k))
-                printf("%s %11.0f %11.0f %7.2f%s\n", in.label, ours, theirs, ours / theirs, mark);
+    for (unsigned i = 0; i < COUNT; i++) {
+        for (unsigned k = 0; k < SIZE_COUNT; k++) {
+            make_input(&ins[k], &ROWS[i], SIZES[k]);
+            compare(&ins[k]);
         }
+        measure(ins, times[i]);
+        for (unsigned k = 0; k < SIZE_COUNT; k++)
+            if (is_shown(k)) {
+                double ours = times[i][k][0], theirs = times[i][k][1];
+                printf("%s %11.0f %11.0f %7.2f%s\n", ins[k].label, ours, theirs, ours / theirs, mark);
+            }
+    }
     printf("\n%-22s %6s %11s %11s %7s%s\n", "growth of our time", "128", "to 256", "to 512", "to 1024", mark);
     for (unsigned i = 0; i < COUNT; i++) {
         printf("%-22s %6.0f", ROWS[i].name, times[i][1][0]);
-        for (unsigned k = 2; k < 5; k++)
+        for (unsigned k = 2; k < SIZE_COUNT; k++)
             printf(" %*.2f", k < 4 ? 11 : 7, times[i][k][0] / times[i][k - 1][0]);
         printf("%s\n", mark);
     }
@@ -357,7 +367,7 @@ static void write_inputs(void)
     for (unsigned s = 0; s < 2; s++)
         fwrite(&in, sizeof in, 1, stdout);
     for (unsigned i = 0; i < COUNT; i++)
-        for (unsigned k = 0; k < 5; k++)
+        for (unsigned k = 0; k < SIZE_COUNT; k++)
             if (is_shown(k)) {
                 make_input(&in, &ROWS[i], SIZES[k]);
                 compare(&in);
