@@ -1,6 +1,6 @@
--- The loops that edit records: upward, each record from the first on; downward, each record moved up by one place.
+-- The loops that edit records: each record from the first on, in its place or moved up by one.
 use Prim.Native.Nat.{ℕ, _+_, _-_, _*_, _/_, _≤_, _<_}
-use mathlib.Core.Path.{_≡_, refl, sym, ap, _∙_}
+use mathlib.Core.Path.{_≡_, sym, ap, _∙_}
 use mathlib.Core.List.{List}
 use native.Mathlib.Omega.{arith}
 use native.Mathlib.Decide.{decLt}
@@ -16,7 +16,7 @@ use Rattle.tables.specs.Bytes.{recordIn, tableOf, putRecord}
 use Rattle.tables.proofs.Decoded.{length-table, table-at}
 use Rattle.tables.proofs.Encoded.{Bytes}
 use Rattle.editing.specs.Edited.{holding, changedFrom, raise16, grown}
-use Rattle.editing.proofs.Stored.{Stored, mixed, mixed-low, mixed-high, stored-same, stored-up, stored-kept, stored-down, stored-put, stored-holding}
+use Rattle.editing.proofs.Stored.{Stored, mixed, mixed-low, mixed-high, stored-same, stored-up, stored-kept, stored-holding}
 use Rattle.editing.proofs.Changed.{changed-length, changed-low, changed-high, grown-length, grown-low, grown-here, grown-high}
 
 -- a record that the code reads, where the buffer has it
@@ -84,31 +84,35 @@ module _ (xs : List ℕ) (n g : ℕ) (gate : Record) where
   abbrev pub new : List Record
   new = grown g gate old
 
-  -- the records above i have moved up, and those up to i are as they were
+  -- the records below i are the new ones, and those from i on as they were
   abbrev pub Moving : ℕ → List ℕ → Type 0
-  Moving i ys = Stored xs (n + 1) (mixed (i + 1) (recordIn xs) (recordAt new)) ys
+  Moving i ys = Stored xs (n + 1) (mixed i (recordAt new) (recordIn xs)) ys
 
   module _ (fits : 8 * (n + 1) ≤ length xs) (inside : g - 1 ≤ n) where
     within-old : g - 1 ≤ length old
     within-old = omega (arith, length-table xs n)
 
-    pub move-start : Moving n xs
-    move-start = stored-same xs (n + 1) _ (λ j h. sym (mixed-low (n + 1) _ _ j h))
-
-    pub move-next : (ys : List ℕ) (i : ℕ) (r : Record) → g - 1 ≤ i → i < n → r ≡ edges (raise16 g) (recordAt (tableOf ys (length ys / 8)) i)
-        → Moving (i + 1) ys → Moving i (putRecord ys (i + 1) r)
-    move-next ys i r l h e s =
-        stored-down fits (recordIn xs) (recordAt new) (i + 1) r (omega arith)
-        (e
-        ∙ ap (edges (raise16 g)) (read ys i (omega (arith, s .long)) ∙ s .records i (omega arith) ∙ mixed-low (i + 1 + 1) _ _ i (omega arith) ∙ sym (table-at xs n i h))
-        ∙ sym (grown-high g gate old within-old i l (omega (arith, length-table xs n))))
-        s
-
-    pub move-end : (ys : List ℕ) → Bytes (putRecord ys (g - 1) gate) → Moving (g - 1) ys → putRecord ys (g - 1) gate ≡ holding new xs
-    move-end ys bytes s =
-        stored-holding fits new (grown-length g gate old within-old ∙ ap (λ (k : ℕ). k + 1) (length-table xs n)) (λ j l. refl) bytes
-        (stored-put fits (recordAt new) (g - 1) gate (omega arith) (sym (grown-here g gate old within-old)) (λ j e. go j e (decLt j (g - 1))) s)
+    pub move-start : Moving (g - 1) xs
+    move-start = stored-same xs (n + 1) _ (λ j h. go j (decLt j (g - 1)))
       where
-        go : (j : ℕ) → (j ≡ g - 1 → ⊥) → Dec (j < g - 1) → mixed (g - 1 + 1) (recordIn xs) (recordAt new) j ≡ recordAt new j
-        go j e (yes l) = mixed-low (g - 1 + 1) _ _ j (omega arith) ∙ sym (grown-low g gate old within-old j l ∙ table-at xs n j (omega arith))
-        go j e (no l) = mixed-high (g - 1 + 1) _ _ j (omega arith)
+        go : (j : ℕ) → Dec (j < g - 1) → recordIn xs j ≡ mixed (g - 1) (recordAt new) (recordIn xs) j
+        go j (yes l) = sym (mixed-low (g - 1) _ _ j l ∙ grown-low g gate old within-old j l ∙ table-at xs n j (omega arith))
+        go j (no l) = sym (mixed-high (g - 1) _ _ j (omega arith))
+
+    -- the gate is held first
+    pub held-first : gate ≡ recordAt new (g - 1)
+    held-first = sym (grown-here g gate old within-old)
+
+    -- and then the record that gave way, renumbered
+    pub held-next : (ys : List ℕ) (i : ℕ) → g - 1 ≤ i → i < n → Moving i ys → edges (raise16 g) (recordAt (tableOf ys (length ys / 8)) i) ≡ recordAt new (i + 1)
+    held-next ys i l h s =
+        ap (edges (raise16 g)) (read ys i (omega (arith, s .long)) ∙ s .records i (omega arith) ∙ mixed-high i _ _ i (omega arith) ∙ sym (table-at xs n i h))
+        ∙ sym (grown-high g gate old within-old i l (omega (arith, length-table xs n)))
+
+    pub move-next : (ys : List ℕ) (i : ℕ) (r : Record) → i ≤ n → r ≡ recordAt new i → Moving i ys → Moving (i + 1) (putRecord ys i r)
+    move-next ys i r h e s = stored-up fits (recordAt new) (recordIn xs) i r (omega arith) e s
+
+    pub move-end : (ys : List ℕ) (r : Record) → r ≡ recordAt new n → Bytes (putRecord ys n r) → Moving n ys → putRecord ys n r ≡ holding new xs
+    move-end ys r e bytes s =
+        stored-holding fits new (grown-length g gate old within-old ∙ ap (λ (k : ℕ). k + 1) (length-table xs n)) (λ j l. mixed-low (n + 1) _ _ j l) bytes
+        (move-next ys n r (omega arith) e s)

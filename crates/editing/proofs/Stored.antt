@@ -76,11 +76,6 @@ module _ {xs : List ℕ} {n : ℕ} (fits : 8 * n ≤ length xs) where
       go j l (yes e) = rw e (here ∙ sym (mixed-low (i + 1) low high i (omega arith)))
       go j l (no e) = s .records j l ∙ mixed-next low high i j e
 
-  -- from above: record i is what it becomes
-  pub stored-down : (low high : ℕ → Record) {ys : List ℕ} (i : ℕ) (r : Record) → i < n → r ≡ high i → Stored xs n (mixed (i + 1) low high) ys → Stored xs n (mixed i low high) (putRecord ys i r)
-  stored-down low high i r h here s =
-      stored-put (mixed i low high) i r h (here ∙ sym (mixed-high i low high i (omega arith))) (λ j e. sym (mixed-next low high i j e)) s
-
   -- all records are told, so all bytes are
   pub stored-table : {want : ℕ → Record} {ys : List ℕ} (t : List Record) → length t ≡ n → ((j : ℕ) → j < n → want j ≡ recordAt t j) → Stored xs n want ys → tableOf ys n ≡ t
   stored-table {want} {ys} t len same s =

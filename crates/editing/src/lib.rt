@@ -66,7 +66,7 @@ fn raised_record(g: u16, r: Record) -> Record
     }
 }
 
-// Inserts a gate directly before node g, among n records: the records from that of g on move up by one place, from the top, and are renumbered.
+// Inserts a gate directly before node g, among n records: from there on each record gives way to the one held, and is held in turn, renumbered.
 pub fn insert(s: &mut [u8], n: usize, g: u16, gate: Record)
     ensures { λ _. ⌜ now (s .exit) ≡ insertedAt (now (s .entry)) n g gate ⌝ }
 {
@@ -78,13 +78,15 @@ pub fn insert(s: &mut [u8], n: usize, g: u16, gate: Record)
     if n < place {
         return;
     }
-    let mut i = n;
-    while place < i {
-        i -= 1;
+    let mut held = gate;
+    let mut i = place;
+    while i < n {
         let r = record_at(s, i);
-        put_record(s, i + 1, raised_record(g, r));
+        put_record(s, i, held);
+        held = raised_record(g, r);
+        i += 1;
     }
-    put_record(s, place, gate);
+    put_record(s, n, held);
 }
 
 // Clears the records from `first` on, up to n.

@@ -121,11 +121,20 @@ pub fn output(operand: u16) -> Record
 pub fn in_order(middle: u8, first: u16, second: u16, third: u16) -> Record
     ensures { λ r. ⌜ r ≡ inOrder middle first second third ⌝ }
 {
-    if middle == 1 {
-        return operation(second, first, third);
+    let mut x = first;
+    let mut y = third;
+    let mut z = second;
+    match middle {
+        1 => {
+            x = second;
+            y = first;
+            z = third;
+        }
+        2 => {
+            y = second;
+            z = third;
+        }
+        _ => {}
     }
-    if middle == 2 {
-        return operation(first, second, third);
-    }
-    operation(first, third, second)
+    operation(x, y, z)
 }

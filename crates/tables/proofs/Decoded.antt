@@ -1,13 +1,15 @@
 -- The records that bytes hold, one by one.
-use Prim.Native.Nat.{ℕ, zero, suc, _+_, _*_, _≤_, _<_}
-use mathlib.Core.Path.{_≡_, refl, ap}
+use Prim.Native.Nat.{ℕ, zero, suc, _+_, _*_, _/_, _≤_, _<_}
+use mathlib.Core.Path.{_≡_, refl, sym, ap}
 use mathlib.Core.List.{List}
 use native.Mathlib.Omega.{arith}
+use native.Mathlib.Decide.{decLt}
+use borrow.Author.Tests.{lt-ltb, le-ltb}
 use lib.ListN.{length, take, List·getD-eq-default}
 use lib.Seq.{getD-take}
-use Rattle.majority.specs.Table.{blank, recordAt}
+use Rattle.majority.specs.Table.{recordOf, blank, recordAt}
 use Rattle.tables.specs.Field.{fieldAt}
-use Rattle.tables.specs.Bytes.{recordIn, decode, tableOf}
+use Rattle.tables.specs.Bytes.{recordIn, decode, tableOf, recordsOf, fieldOf}
 
 length-decode : (xs : List ℕ) (k i : ℕ) → length (decode xs i k) ≡ k
 unfolding decode
@@ -44,3 +46,12 @@ module _ (xs : List ℕ) (n : ℕ) where
 
   pub table-past : (i : ℕ) → n ≤ i → recordAt (tableOf xs n) i ≡ blank
   table-past i h = List·getD-eq-default (tableOf xs n) blank (let e = length-table in omega arith)
+
+-- a record of the bytes, field by field
+pub read-fields : (xs : List ℕ) (i : ℕ) → recordOf (fieldOf xs i 0) (fieldOf xs i 1) (fieldOf xs i 2) (fieldOf xs i 3) ≡ recordAt (recordsOf xs) i
+unfolding fieldOf
+read-fields xs i = go (decLt i (length xs / 8))
+  where
+    go : Dec (i < length xs / 8) → recordOf (fieldOf xs i 0) (fieldOf xs i 1) (fieldOf xs i 2) (fieldOf xs i 3) ≡ recordAt (recordsOf xs) i
+    go (yes h) = let e : 4 * i + 0 ≡ 4 * i = omega arith in rw (lt-ltb i (length xs / 8) h, e) (sym (table-at xs (length xs / 8) i h))
+    go (no h) = rw (le-ltb i (length xs / 8) (omega arith)) (sym (table-past xs (length xs / 8) i (omega arith)))

@@ -25,6 +25,10 @@ tableOf xs n = decode xs 0 n
 abbrev pub recordsOf : List ℕ → List Record
 recordsOf xs = tableOf xs (length xs / 8)
 
+-- field d of record i of the bytes xs, 0 where they do not hold the record whole
+unfoldable pub fieldOf : List ℕ → ℕ → ℕ → ℕ
+fieldOf xs i d = if ltb i (length xs / 8) then fieldAt xs (4 * i + d) else 0
+
 -- the bytes of a field, and of a record, before others
 abbrev pub fieldBytes : ℕ → List ℕ → List ℕ
 fieldBytes v rest = v % 256 ∷ v / 256 ∷ rest

@@ -6,7 +6,7 @@ ghost use mathlib.Core.Path.{_≡_};
 ghost use Prim.Native.Nat.{_+_, _*_, _<_};
 ghost use lib.ListN.{length};
 ghost use Rattle.majority.specs.Table.{recordAt};
-ghost use Rattle.tables.specs.Bytes.{recordIn, recordsOf, putFields, putRecord};
+ghost use Rattle.tables.specs.Bytes.{recordIn, recordsOf, fieldOf, putRecord};
 
 // Record i, which the slice holds whole.
 pub(crate) fn record_in(s: &[u8], i: usize) -> Record
@@ -21,29 +21,26 @@ pub(crate) fn record_in(s: &[u8], i: usize) -> Record
     }
 }
 
-// Puts r as record i, for which the slice has room.
-fn put_fields(s: &mut [u8], i: usize, r: Record)
-    requires { ⌜ 8 * i + 7 < length (now s) ⌝ }
-    ensures { λ _. ⌜ now (s .exit) ≡ putFields (now (s .entry)) i r ⌝ }
+// Field d of record i, or 0 where the slice does not hold the record whole.
+fn field_of(s: &[u8], i: usize, d: usize) -> u16
+    requires { ⌜ d < 4 ⌝ }
+    ensures { λ r. ⌜ r ≡ fieldOf (now (s .entry)) i d ⌝ }
 {
-    put(s, 4 * i, r.kind);
-    put(s, 4 * i + 1, r.e1);
-    put(s, 4 * i + 2, r.e2);
-    put(s, 4 * i + 3, r.e3);
+    if i < s.len() / 8 {
+        return get(s, 4 * i + d);
+    }
+    0
 }
 
-// Record i, or the blank record where the slice does not hold it whole.
+// Record i, or the blank record where the slice does not hold it whole. Field by field: a record handed on whole goes through one register.
 pub fn record_at(s: &[u8], i: usize) -> Record
     ensures { λ r. ⌜ r ≡ recordAt (recordsOf (now (s .entry))) i ⌝ }
 {
-    if i < s.len() / 8 {
-        return record_in(s, i);
-    }
     Record {
-        kind: 0,
-        e1: 0,
-        e2: 0,
-        e3: 0,
+        kind: field_of(s, i, 0),
+        e1: field_of(s, i, 1),
+        e2: field_of(s, i, 2),
+        e3: field_of(s, i, 3),
     }
 }
 
@@ -52,6 +49,9 @@ pub fn put_record(s: &mut [u8], i: usize, r: Record)
     ensures { λ _. ⌜ now (s .exit) ≡ putRecord (now (s .entry)) i r ⌝ }
 {
     if i < s.len() / 8 {
-        put_fields(s, i, r);
+        put(s, 4 * i, r.kind);
+        put(s, 4 * i + 1, r.e1);
+        put(s, 4 * i + 2, r.e2);
+        put(s, 4 * i + 3, r.e3);
     }
 }

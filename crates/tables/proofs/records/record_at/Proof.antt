@@ -1,18 +1,25 @@
--- `records::record_at` meets its contract: within the whole records, and past them.
-use mathlib.Core.Path.{sym, _∙_}
-use Rattle.tables.proofs.Decoded.{table-at, table-past}
+-- `records::record_at` meets its contract, field by field.
+use Rattle.tables.proofs.Decoded.{read-fields}
 use borrow.Author.Needs.{needs}
 use Rattle.tables.proofs.records.record_at.Statement.{statement}
 use Rattle.tables.proofs.records.record_at.Tie as tie
 
-record-in-requires : tie.Need-record-in-requires
-record-in-requires c κs = search needs
+field-of-requires : tie.Need-field-of-requires
+field-of-requires c κs = search needs
+
+field-of-requires-2 : tie.Need-field-of-requires-2
+field-of-requires-2 c κs = search needs
+
+field-of-requires-3 : tie.Need-field-of-requires-3
+field-of-requires-3 c κs = search needs
+
+field-of-requires-4 : tie.Need-field-of-requires-4
+field-of-requires-4 c κs = search needs
 
 returns : tie.Need-returns
-returns c = c .record-in .ensures ∙ sym (table-at _ _ _ (c .before .if1 .taken))
-
-returns-2 : tie.Need-returns-2
-returns-2 c = sym (table-past _ _ _ (c .if1 .left))
+returns c =
+    rw (c .field-of4 .ensures, c .before .field-of3 .ensures, c .before .before .field-of2 .ensures, c .before .before .before .field-of .ensures)
+    (read-fields _ _)
 
 pub record-at-spec : {M : Type 1} → statement M
-record-at-spec = tie.close (tie.spec record-in-requires returns returns-2)
+record-at-spec = tie.close (tie.spec field-of-requires field-of-requires-2 field-of-requires-3 field-of-requires-4 returns)
