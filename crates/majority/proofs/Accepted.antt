@@ -90,7 +90,7 @@ unfolding faultOf
 of-output last i r e h = ap (faultOf last i) e ∙ rw (le-ltb last (nodeOf (r .e1)) h)
 
 -- the limits that the test of the counts asks
-pub limits-of : (c : Counts) → badCounts c ≡ false → WithinLimits (c .inputs) (c .gates) (c .outputs)
+limits-of : (c : Counts) → badCounts c ≡ false → WithinLimits (c .inputs) (c .gates) (c .outputs)
 limits-of c e =
     let q = neither (ltb 32 (c .inputs) || ltb 1024 (c .gates) || ltb 32 (c .outputs)) (ltb (c .outputs) 1) e in
     let q1 = neither (ltb 32 (c .inputs) || ltb 1024 (c .gates)) (ltb 32 (c .outputs)) (q .0) in

@@ -84,8 +84,45 @@ module _ (p : ℕ → Bool) where
       go true q h rest = q
       go false q h rest = rest (omega arith)
 
+  past : (k m i : ℕ) → k ≤ m → i + k ≤ firstFrom p i k → firstFrom p i m ≡ firstFrom p (i + k) (m - k)
+  unfolding firstFrom
+  past zero m i l h =
+      let e : i + 0 ≡ i = omega arith in
+      let d : m - 0 ≡ m = omega arith in
+      rw (e, d)
+  past (suc k) zero i l h = absurd (omega arith)
+  past (suc k) (suc m) i l h = go (p i) h (past k m (suc i) (omega arith))
+    where
+      go : (t : Bool) → i + suc k ≤ (if t then i else firstFrom p (suc i) k)
+          → (suc i + k ≤ firstFrom p (suc i) k → firstFrom p (suc i) m ≡ firstFrom p (suc i + k) (m - k))
+          → (if t then i else firstFrom p (suc i) m) ≡ firstFrom p (i + suc k) (suc m - suc k)
+      go true h rest = absurd (omega arith)
+      go false h rest =
+          let e : i + suc k ≡ suc i + k = omega arith in
+          let d : suc m - suc k ≡ m - k = omega arith in
+          rw (e, d) (rest (omega arith))
+
+  -- a search of the numbers from a up to n, after one up to b
+  module _ (a b n : ℕ) (start : a ≤ b) (inside : b ≤ n) where
+    pub seek-found : firstFrom p a (b - a) < b → firstFrom p a (n - a) ≡ firstFrom p a (b - a)
+    seek-found h =
+        let w = found-in (b - a) a in
+        found-at (n - a) a (firstFrom p a (b - a)) (w .0) (omega arith) (fails-before (b - a) a) (holds-there (b - a) a (omega arith))
+
+    pub seek-past : b ≤ firstFrom p a (b - a) → firstFrom p a (n - a) ≡ firstFrom p b (n - b)
+    seek-past h =
+        let e : a + (b - a) ≡ b = omega arith in
+        let d : n - a - (b - a) ≡ n - b = omega arith in
+        past (b - a) (n - a) a (omega arith) (omega arith) ∙ rw (e, d)
+
   -- a search over n numbers that found none below n
   pub all-fail : (n : ℕ) → ltb (first p n) n ≡ false → (j : ℕ) → j < n → p j ≡ false
   all-fail n e j h =
       let l : n ≤ first p n = ltb-false _ _ e in
       fails-before n 0 j (omega arith) (omega arith)
+
+-- two tests that agree find the same
+pub same-found : (p q : ℕ → Bool) (k i : ℕ) → ((j : ℕ) → i ≤ j → j < i + k → p j ≡ q j) → firstFrom p i k ≡ firstFrom q i k
+unfolding firstFrom
+same-found p q zero i same = refl
+same-found p q (suc k) i same = rw (same i (omega arith) (omega arith), same-found p q k (suc i) (λ j a b. same j (omega arith) (omega arith)))

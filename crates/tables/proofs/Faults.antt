@@ -1,36 +1,98 @@
--- How a loop over the records of a table, in search of a fault, meets `checkFields`.
-use Prim.Native.Nat.{ℕ, _+_, _≤_, _<_}
-use mathlib.Core.Path.{_≡_, sym, ap, _∙_}
-use mathlib.Core.Bool.{not}
+-- The first fault, sought in each run of records by its kind, is the first of the table; and what it makes of `checkFields`.
+use Prim.Native.Nat.{ℕ, _+_, _-_, _≤_, _<_}
+use mathlib.Core.Path.{_≡_, sym, ap, subst, _∙_}
+use mathlib.Core.Bool.{Bool, not}
 use mathlib.Core.List.{List}
 use native.Mathlib.Nat.{le-refl}
-use borrow.Author.Tests.{lt-ltb, le-ltb, eq-eqb, ne-eqb}
+use native.Mathlib.Omega.{arith}
+use borrow.Author.Tests.{lt-ltb, le-ltb, eqb-false, not-true}
+use lib.Dec.{ltb, eqb}
 use lib.ListN.{length}
-use Rattle.majority.specs.Seek.{first}
+use Rattle.majority.specs.Seek.{firstFrom, first}
 use Rattle.majority.specs.Table.{recordAt}
-use Rattle.majority.specs.Check.{accepted, refused, faultOf, faultyAt, checkFields}
+use Rattle.majority.specs.Check.{accepted, refused, badKindAt, countsOf, faultOf, faultyAt, checkFields}
 use Rattle.majority.specs.declared.Record.{Record}
 use Rattle.majority.specs.declared.Counts.{Counts}
-use Rattle.majority.proofs.Seek.{Seeking, seek-stop, seek-next, seek-end}
+use Rattle.majority.proofs.Logic.{passed}
+use Rattle.majority.proofs.Seek.{seek-start, holds-there, all-fail, seek-found, seek-past, same-found}
+use Rattle.majority.proofs.Order.{InOrder, all-counted, in-order}
+use Rattle.tables.specs.Bytes.{recordIn, recordAs, tableOf}
+use Rattle.tables.specs.Runs.{faultyAs}
+use Rattle.tables.specs.Claimed.{checkKinds}
+use Rattle.tables.proofs.Decoded.{length-table, table-at}
 
-module _ (c : Counts) (rs : List Record) (n i : ℕ) (all : length rs ≡ n) where
+module _ (xs : List ℕ) (n : ℕ) (c : Counts) where
+  abbrev rs : List Record
+  rs = tableOf xs n
+
   abbrev last : ℕ
   last = c .inputs + c .gates
 
-  -- the first fault is sought, and the loop stands at i
-  abbrev pub SeekingFault : Type 0
-  SeekingFault = Seeking (faultyAt last rs) n i (first (faultyAt last rs) n)
+  abbrev faulty : ℕ → Bool
+  faulty = faultyAt last rs
 
-  pub fault-stop : (f : ℕ) → i < n → faultOf last i (recordAt rs i) ≡ f → (f ≡ 0 → ⊥) → SeekingFault → checkFields c rs ≡ refused f i
-  unfolding checkFields faultyAt
-  fault-stop f h e z s =
-      let b : first (faultyAt last rs) n ≡ i = seek-stop _ _ _ _ h (ap not (ne-eqb _ _ (λ q. z (sym e ∙ q)))) s in
-      rw (all, b, lt-ltb i n h, e)
+  module _ (kinds : checkKinds rs ≡ accepted c) where
+    ordered : InOrder (c .inputs) (c .gates) (c .outputs) rs × (length rs ≡ c .inputs + c .gates + c .outputs)
+    unfolding checkKinds
+    ordered =
+        let w = passed (ltb (first (badKindAt rs) (length rs)) (length rs)) 2 (first (badKindAt rs) (length rs)) (accepted (countsOf rs)) c kinds in
+        let same : countsOf rs ≡ c = let e = w .1 in cc in
+        let good = all-fail (badKindAt rs) (length rs) (w .0) in
+        subst (λ (k : Counts). InOrder (k .inputs) (k .gates) (k .outputs) rs × (length rs ≡ k .inputs + k .gates + k .outputs)) same (in-order rs good, all-counted rs good)
 
-  pub fault-next : i < n → faultOf last i (recordAt rs i) ≡ 0 → SeekingFault → Seeking (faultyAt last rs) n (i + 1) (first (faultyAt last rs) n)
-  unfolding faultyAt
-  fault-next h e s = seek-next _ _ _ _ h (ap not (eq-eqb _ _ e)) s
+    -- the records are as many as the counts say
+    pub all-records : n ≡ c .inputs + c .gates + c .outputs
+    all-records = sym (length-table xs n) ∙ ordered .1
 
-  pub fault-end : n ≤ i → i ≤ n → SeekingFault → checkFields c rs ≡ accepted c
-  unfolding checkFields
-  fault-end h l s = rw (all, seek-end _ _ _ _ h l s, le-ltb n n (le-refl n))
+    -- the records of a run, read as those of its kind, have the faults that they have
+    run-faults : (k from to : ℕ) → to ≤ n → ((j : ℕ) → from ≤ j → j < to → recordAt rs j .kind ≡ k) → firstFrom (faultyAs xs k last) from (to - from) ≡ firstFrom faulty from (to - from)
+    unfolding faultyAs faultyAt
+    run-faults k from to inside kind =
+        same-found (faultyAs xs k last) faulty (to - from) from
+        (λ j a b.
+        let here = table-at xs n j (omega arith) in
+        let is : recordIn xs j .kind ≡ k = ap (λ (r : Record). r .kind) (sym here) ∙ kind j a (omega arith) in
+        ap (λ (r : Record). not (eqb (faultOf last j r) 0)) (ap (recordAs xs j) (sym is) ∙ sym here))
+
+    -- the faults that the code found in the three runs
+    module _ (i g : ℕ) (ei : i ≡ firstFrom (faultyAs xs 1 last) 0 (c .inputs - 0)) where
+      input-found : i ≡ firstFrom faulty 0 (c .inputs - 0)
+      input-found = ei ∙ run-faults 1 0 (c .inputs) (omega (arith, all-records)) (λ j a. ordered .0 .inputs j)
+
+      pub first-input : i < c .inputs → i ≡ first faulty n
+      first-input h =
+          input-found ∙ sym (seek-start faulty n ∙ seek-found faulty 0 (c .inputs) n (omega arith) (omega (arith, all-records)) (rw input-found at h))
+
+      past-inputs : c .inputs ≤ i → first faulty n ≡ firstFrom faulty (c .inputs) (n - c .inputs)
+      past-inputs h = seek-start faulty n ∙ seek-past faulty 0 (c .inputs) n (omega arith) (omega (arith, all-records)) (rw input-found at h)
+
+      module _ (eg : g ≡ firstFrom (faultyAs xs 2 last) (c .inputs) (last - c .inputs)) (none : c .inputs ≤ i) where
+        gate-found : g ≡ firstFrom faulty (c .inputs) (last - c .inputs)
+        gate-found = eg ∙ run-faults 2 (c .inputs) last (omega (arith, all-records)) (ordered .0 .gates)
+
+        pub first-gate : g < last → g ≡ first faulty n
+        first-gate h = gate-found ∙ sym (past-inputs none ∙ seek-found faulty (c .inputs) last n (omega arith) (omega (arith, all-records)) (rw gate-found at h))
+
+        pub first-output : (o : ℕ) → o ≡ firstFrom (faultyAs xs 3 last) last (n - last) → last ≤ g → o ≡ first faulty n
+        first-output o eo h =
+            eo
+            ∙ run-faults 3 last n (le-refl n) (λ j a b. ordered .0 .outputs j a (omega (arith, all-records)))
+            ∙ sym (past-inputs none ∙ seek-past faulty (c .inputs) last n (omega arith) (omega (arith, all-records)) (rw gate-found at h))
+
+  -- the first fault decides
+  module _ (bad : ℕ) (is : bad ≡ first faulty n) where
+    pub fault-end : n ≤ bad → checkFields c rs ≡ accepted c
+    unfolding checkFields
+    fault-end h = rw (length-table xs n, ← is, le-ltb bad n h)
+
+    module _ (h : bad < n) (r : Record) (er : r ≡ recordIn xs bad) (f : ℕ) (ef : f ≡ faultOf last bad r) where
+      fault-is : faultOf last bad (recordAt rs bad) ≡ f
+      fault-is = ap (faultOf last bad) (table-at xs n bad h ∙ sym er) ∙ sym ef
+
+      pub fault-stop : checkFields c rs ≡ refused f bad
+      unfolding checkFields
+      fault-stop = rw (length-table xs n, ← is, lt-ltb bad n h, fault-is)
+
+      pub fault-there : f ≡ 0 → ⊥
+      unfolding faultyAt
+      fault-there e = eqb-false _ _ (not-true _ (rw (← is) at (holds-there faulty n 0 (omega arith)))) (fault-is ∙ e)

@@ -12,6 +12,10 @@ use Rattle.tables.specs.Field.{fieldAt, putField}
 abbrev pub recordIn : List ℕ → ℕ → Record
 recordIn xs i = recordOf (fieldAt xs (4 * i)) (fieldAt xs (4 * i + 1)) (fieldAt xs (4 * i + 2)) (fieldAt xs (4 * i + 3))
 
+-- the same with the kind k in place of its own
+abbrev pub recordAs : List ℕ → ℕ → ℕ → Record
+recordAs xs i k = recordOf k (recordIn xs i .e1) (recordIn xs i .e2) (recordIn xs i .e3)
+
 -- k records of the bytes xs, from record i on
 unfoldable pub decode : List ℕ → ℕ → ℕ → List Record
 decode xs i zero = []

@@ -2,6 +2,7 @@
 use crate::Checked;
 use crate::Refusal;
 use crate::fields::get;
+use crate::records::record_as;
 use crate::records::record_in;
 use majority::Counts;
 use majority::GATE;
@@ -14,10 +15,11 @@ use majority::Record;
 ghost use mathlib.Core.Path.{_≡_};
 ghost use Prim.Native.Nat.{_+_, _-_, _*_, _≤_};
 ghost use lib.ListN.{length};
-ghost use Rattle.majority.specs.Check.{badCounts, notZero, past, badEdge, faultOf, checkFields, checkRecords};
+ghost use Rattle.majority.specs.Seek.{firstFrom, first};
+ghost use Rattle.majority.specs.Check.{accepted, badCounts, notZero, past, badEdge, faultOf, faultyAt, checkFields, checkRecords};
 ghost use Rattle.tables.specs.Bytes.{tableOf};
 ghost use Rattle.tables.specs.Said.{faultNumber, saidCheck};
-ghost use Rattle.tables.specs.Runs.{runEnd};
+ghost use Rattle.tables.specs.Runs.{runEnd, faultyAs};
 ghost use Rattle.tables.specs.Claimed.{otherCounts, checkKinds, checkCounted, checkClaimed};
 
 // The first record from `from` on, of n records, that is of another kind; n where there is none.
@@ -99,20 +101,53 @@ fn fault_of(last: usize, i: usize, r: Record) -> Fault
     Fault::Nothing
 }
 
-// Refusals 4 and 5 of n records with these counts, which are within their limits.
+// The first record from `from` on, up to `to`, that has a fault as one of this kind; `to` where there is none.
+fn run_fault(s: &[u8], from: usize, to: usize, kind: u16, last: usize) -> usize
+    requires { ⌜ (8 * to ≤ length (now s)) × (from ≤ to) × (2 * last + 1 ≤ 18446744073709551615) ⌝ }
+    ensures { λ r. ⌜ r ≡ firstFrom (faultyAs (now (s .entry)) kind last) from (to - from) ⌝ }
+{
+    let mut i = from;
+    while i < to {
+        match fault_of(last, i, record_as(s, i, kind)) {
+            Fault::Nothing => {}
+            _ => return i,
+        }
+        i += 1;
+    }
+    to
+}
+
+// The first of n records with these counts that has a fault, n where there is none: a loop for each kind.
+fn first_fault(s: &[u8], n: usize, counts: Counts) -> usize
+    requires { ⌜ (8 * n ≤ length (now s)) × (checkKinds (tableOf (now s) n) ≡ accepted counts) ⌝ }
+    ensures { λ r. ⌜ r ≡ first (faultyAt (counts .inputs + counts .gates) (tableOf (now (s .entry)) n)) n ⌝ }
+{
+    let inputs = counts.inputs;
+    let last = inputs + counts.gates;
+    let input = run_fault(s, 0, inputs, INPUT, last);
+    if input < inputs {
+        return input;
+    }
+    let gate = run_fault(s, inputs, last, GATE, last);
+    if gate < last {
+        return gate;
+    }
+    run_fault(s, last, n, OUTPUT, last)
+}
+
+// Refusals 4 and 5 of n records with these counts.
 fn check_fields(s: &[u8], n: usize, counts: Counts) -> Checked
-    requires { ⌜ (8 * n ≤ length (now s)) × (counts .inputs ≤ 32) × (counts .gates ≤ 1024) ⌝ }
+    requires { ⌜ (8 * n ≤ length (now s)) × (checkKinds (tableOf (now s) n) ≡ accepted counts) ⌝ }
     ensures { λ r. ⌜ saidCheck r ≡ checkFields counts (tableOf (now (s .entry)) n) ⌝ }
 {
     let last = counts.inputs + counts.gates;
-    let mut i = 0;
-    while i < n {
-        match fault_of(last, i, record_in(s, i)) {
+    let bad = first_fault(s, n, counts);
+    if bad < n {
+        match fault_of(last, bad, record_in(s, bad)) {
             Fault::Nothing => {}
-            Fault::NotZero => return Checked::Refused(Refusal::NotZero(i)),
-            Fault::Edge => return Checked::Refused(Refusal::Edge(i)),
+            Fault::NotZero => return Checked::Refused(Refusal::NotZero(bad)),
+            Fault::Edge => return Checked::Refused(Refusal::Edge(bad)),
         }
-        i += 1;
     }
     Checked::Accepted(counts)
 }
@@ -144,7 +179,7 @@ fn other_counts(claim: Counts, found: Counts) -> bool
 
 // Refusals 3 to 5 of n records with the counts found, for which others may be claimed.
 fn check_counted(s: &[u8], n: usize, claim: Counts, found: Counts) -> Checked
-    requires { ⌜ 8 * n ≤ length (now s) ⌝ }
+    requires { ⌜ (8 * n ≤ length (now s)) × (checkKinds (tableOf (now s) n) ≡ accepted found) ⌝ }
     ensures { λ r. ⌜ saidCheck r ≡ checkCounted claim (tableOf (now (s .entry)) n) found ⌝ }
 {
     let bad = bad_counts(found);

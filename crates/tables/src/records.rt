@@ -6,19 +6,27 @@ ghost use mathlib.Core.Path.{_≡_};
 ghost use Prim.Native.Nat.{_+_, _*_, _<_};
 ghost use lib.ListN.{length};
 ghost use Rattle.majority.specs.Table.{recordAt};
-ghost use Rattle.tables.specs.Bytes.{recordIn, recordsOf, fieldOf, putRecord};
+ghost use Rattle.tables.specs.Bytes.{recordIn, recordAs, recordsOf, fieldOf, putRecord};
+
+// Record i, which the slice holds whole, as one of this kind.
+pub(crate) fn record_as(s: &[u8], i: usize, kind: u16) -> Record
+    requires { ⌜ 8 * i + 7 < length (now s) ⌝ }
+    ensures { λ r. ⌜ r ≡ recordAs (now (s .entry)) i kind ⌝ }
+{
+    Record {
+        kind,
+        e1: get(s, 4 * i + 1),
+        e2: get(s, 4 * i + 2),
+        e3: get(s, 4 * i + 3),
+    }
+}
 
 // Record i, which the slice holds whole.
 pub(crate) fn record_in(s: &[u8], i: usize) -> Record
     requires { ⌜ 8 * i + 7 < length (now s) ⌝ }
     ensures { λ r. ⌜ r ≡ recordIn (now (s .entry)) i ⌝ }
 {
-    Record {
-        kind: get(s, 4 * i),
-        e1: get(s, 4 * i + 1),
-        e2: get(s, 4 * i + 2),
-        e3: get(s, 4 * i + 3),
-    }
+    record_as(s, i, get(s, 4 * i))
 }
 
 // Field d of record i, or 0 where the slice does not hold the record whole.

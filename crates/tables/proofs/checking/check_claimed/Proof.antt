@@ -1,6 +1,7 @@
 -- `checking::check_claimed` meets its contract: the kinds, then the counts claimed and the fields.
 use borrow.Author.Needs.{needs}
-use mathlib.Core.Path.{sym, _∙_}
+use mathlib.Core.Path.{sym, ap, _∙_}
+use Rattle.tables.specs.Said.{saidCheck}
 use Rattle.tables.specs.Claimed.{checkCounted, checkClaimed}
 use Rattle.tables.proofs.After.{then-accepted, then-refused}
 use Rattle.tables.proofs.checking.check_claimed.Statement.{statement}
@@ -13,7 +14,7 @@ enum-known-found : tie.Need-enum-known-found
 enum-known-found c = search needs
 
 check-counted-requires : tie.Need-check-counted-requires
-check-counted-requires c κs = search needs
+check-counted-requires c κs = (search needs, sym (c .before .before .before .check-kinds .ensures) ∙ ap saidCheck (c .before .found .given .1))
 
 enum-known-refusal : tie.Need-enum-known-refusal
 enum-known-refusal c = search needs

@@ -1,8 +1,6 @@
 -- `checking::check_counted` meets its contract: the counts, then the fields.
 use borrow.Author.Needs.{needs}
 use mathlib.Core.Path.{sym, _∙_}
-use Rattle.majority.proofs.Accepted.{limits-of}
-use Rattle.majority.proofs.Logic.{neither}
 use Rattle.tables.specs.Claimed.{checkCounted}
 use Rattle.tables.proofs.checking.check_counted.Statement.{statement}
 use Rattle.tables.proofs.checking.check_counted.Tie as tie
@@ -18,9 +16,7 @@ unfolding checkCounted
 returns c = rw (sym (c .before .before .bad-counts .ensures), sym (c .before .other-counts .ensures), c .if1 .taken)
 
 check-fields-requires : tie.Need-check-fields-requires
-check-fields-requires c κs =
-    let w = limits-of (c .before .before .before .before .args .found) (sym (c .before .before .bad-counts .ensures) ∙ neither _ _ (c .if1 .left) .0) in
-    (search needs, w .inputs, w .gates)
+check-fields-requires c κs = c .before .before .before .before .pre
 
 returns-2 : tie.Need-returns-2
 unfolding checkCounted

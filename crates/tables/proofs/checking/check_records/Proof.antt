@@ -1,6 +1,7 @@
 -- `checking::check_records` meets its contract: the kinds, then the counts found and the fields.
 use borrow.Author.Needs.{needs}
-use mathlib.Core.Path.{sym, _∙_}
+use mathlib.Core.Path.{sym, ap, _∙_}
+use Rattle.tables.specs.Said.{saidCheck}
 use Rattle.tables.specs.Claimed.{checkCounted}
 use Rattle.tables.proofs.Claims.{records-counted}
 use Rattle.tables.proofs.After.{then-accepted, then-refused}
@@ -14,7 +15,7 @@ enum-known-found : tie.Need-enum-known-found
 enum-known-found c = search needs
 
 check-counted-requires : tie.Need-check-counted-requires
-check-counted-requires c κs = search needs
+check-counted-requires c κs = (search needs, sym (c .before .before .before .check-kinds .ensures) ∙ ap saidCheck (c .before .found .given .1))
 
 enum-known-refusal : tie.Need-enum-known-refusal
 enum-known-refusal c = search needs

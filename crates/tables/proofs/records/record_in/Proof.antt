@@ -1,4 +1,5 @@
--- `records::record_in` meets its contract, field by field.
+-- `records::record_in` meets its contract: the kind, and the record as one of it.
+use mathlib.Core.Path.{_∙_}
 use borrow.Author.Needs.{needs}
 use Rattle.tables.proofs.records.record_in.Statement.{statement}
 use Rattle.tables.proofs.records.record_in.Tie as tie
@@ -9,50 +10,11 @@ mul-get c = search needs
 get-requires : tie.Need-get-requires
 get-requires c κs = search needs
 
-mul-get-2 : tie.Need-mul-get-2
-mul-get-2 c = search needs
-
-add-get : tie.Need-add-get
-add-get c = search needs
-
-get-requires-2 : tie.Need-get-requires-2
-get-requires-2 c κs = search needs
-
-mul-get-3 : tie.Need-mul-get-3
-mul-get-3 c = search needs
-
-add-get-2 : tie.Need-add-get-2
-add-get-2 c = search needs
-
-get-requires-3 : tie.Need-get-requires-3
-get-requires-3 c κs = search needs
-
-mul-get-4 : tie.Need-mul-get-4
-mul-get-4 c = search needs
-
-add-get-3 : tie.Need-add-get-3
-add-get-3 c = search needs
-
-get-requires-4 : tie.Need-get-requires-4
-get-requires-4 c κs = search needs
+record-as-requires : tie.Need-record-as-requires
+record-as-requires c κs = search needs
 
 returns : tie.Need-returns
-returns c = let d = c .before .before in
-    rw (c .get4 .ensures, c .before .get3 .ensures, d .get2 .ensures, d .before .get .ensures)
+returns c = c .record-as .ensures ∙ rw (c .before .get .ensures)
 
 pub record-in-spec : {M : Type 1} → statement M
-record-in-spec =
-    tie.close
-    (tie.spec
-    mul-get
-    get-requires
-    mul-get-2
-    add-get
-    get-requires-2
-    mul-get-3
-    add-get-2
-    get-requires-3
-    mul-get-4
-    add-get-3
-    get-requires-4
-    returns)
+record-in-spec = tie.close (tie.spec mul-get get-requires record-as-requires returns)
