@@ -19,8 +19,9 @@ use Rattle.tables.specs.Bytes.{tableOf}
 use Rattle.tables.specs.Said.{saidCheck}
 use Rattle.tables.specs.Sound.{Sound, tableIn}
 use Rattle.tables.specs.declared.Checked.{Checked}
+use Rattle.tables.specs.declared.checking.Claim.the-variants.{Any, Only}
 use Rattle.tables.specs.Calls.{badLength, checkOf}
-use Rattle.tables.specs.Claimed.{otherCounts, checkKinds, checkCounted, checkClaimed, claimedCheck}
+use Rattle.tables.specs.Claimed.{otherCounts, checkKinds, checkCounted, checkClaimed, checkUnder, checkUsed, claimedCheck}
 use Rattle.tables.proofs.Runs.{or-true}
 use Rattle.tables.proofs.After.{same-table, checked-table, checked-sound}
 
@@ -105,6 +106,15 @@ module _ (xs : List ℕ) where
   check-counted : checkOf xs (length xs) ≡ (if not (eqb (length xs % 8) 0) then refused 1 0 else andThen (checkKinds held) (λ c. checkCounted c held c))
   unfolding checkOf
   check-counted = rw (own-length, records-counted held)
+
+  -- the code's one check, with no claim and with one
+  pub used-any : (used : ℕ) → checkUsed xs used Any ≡ checkOf xs used
+  unfolding checkUsed checkUnder checkOf
+  used-any used = rw (records-counted (tableOf xs (used / 8)))
+
+  pub used-only : (claim : Counts) → checkUsed xs (length xs) (Only claim) ≡ claimedCheck xs claim
+  unfolding checkUsed checkUnder checkClaimed claimedCheck
+  used-only claim = rw own-length
 
   module _ (claim : Counts) where
     -- the counts found are claimed: the plain check's reply

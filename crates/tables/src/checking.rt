@@ -1,4 +1,4 @@
-// The check of refusals 2 to 5: one pass over the kinds, one over the fields.
+// The check: one pass over the kinds, one over the fields.
 use crate::Checked;
 use crate::Refusal;
 use crate::fields::get;
@@ -16,11 +16,11 @@ ghost use mathlib.Core.Path.{_≡_};
 ghost use Prim.Native.Nat.{_+_, _-_, _*_, _≤_};
 ghost use lib.ListN.{length};
 ghost use Rattle.majority.specs.Seek.{firstFrom, first};
-ghost use Rattle.majority.specs.Check.{accepted, badCounts, notZero, past, badEdge, faultOf, faultyAt, checkFields, checkRecords};
+ghost use Rattle.majority.specs.Check.{accepted, badCounts, notZero, past, badEdge, faultOf, faultyAt, checkFields};
 ghost use Rattle.tables.specs.Bytes.{tableOf};
 ghost use Rattle.tables.specs.Said.{faultNumber, saidCheck};
 ghost use Rattle.tables.specs.Runs.{runEnd, faultyAs};
-ghost use Rattle.tables.specs.Claimed.{otherCounts, checkKinds, checkCounted, checkClaimed};
+ghost use Rattle.tables.specs.Claimed.{otherCounts, checkKinds, checkCounted, claimedOf, checkUnder, checkUsed};
 
 // The first record from `from` on, of n records, that is of another kind; n where there is none.
 fn run_end(s: &[u8], from: usize, n: usize, kind: u16) -> usize
@@ -190,24 +190,39 @@ fn check_counted(s: &[u8], n: usize, claim: Counts, found: Counts) -> Checked
     check_fields(s, n, found)
 }
 
-// Refusals 2 to 5 of the n records of s.
-pub(crate) fn check_records(s: &[u8], n: usize) -> Checked
+// The counts that are claimed, if any.
+pub(crate) enum Claim {
+    Any,
+    Only(Counts),
+}
+
+// The counts claimed, where these are found: with no claim they are the same.
+fn claimed_of(claim: Claim, found: Counts) -> Counts
+    ensures { λ r. ⌜ r ≡ claimedOf claim found ⌝ }
+{
+    match claim {
+        Claim::Any => found,
+        Claim::Only(counts) => counts,
+    }
+}
+
+// Refusals 2 to 5 of the n records of s, and 3 where other counts are claimed.
+fn check_records(s: &[u8], n: usize, claim: Claim) -> Checked
     requires { ⌜ 8 * n ≤ length (now s) ⌝ }
-    ensures { λ r. ⌜ saidCheck r ≡ checkRecords (tableOf (now (s .entry)) n) ⌝ }
+    ensures { λ r. ⌜ saidCheck r ≡ checkUnder claim (tableOf (now (s .entry)) n) ⌝ }
 {
     match check_kinds(s, n) {
-        Checked::Accepted(found) => check_counted(s, n, found, found),
+        Checked::Accepted(found) => check_counted(s, n, claimed_of(claim, found), found),
         Checked::Refused(refusal) => Checked::Refused(refusal),
     }
 }
 
-// The same, and 3 where other counts are claimed.
-pub(crate) fn check_claimed(s: &[u8], n: usize, claim: Counts) -> Checked
-    requires { ⌜ 8 * n ≤ length (now s) ⌝ }
-    ensures { λ r. ⌜ saidCheck r ≡ checkClaimed claim (tableOf (now (s .entry)) n) ⌝ }
+// Refusals 1 to 5 of the first used bytes of s, and 3 where other counts are claimed.
+pub(crate) fn check_used(s: &[u8], used: usize, claim: Claim) -> Checked
+    ensures { λ r. ⌜ saidCheck r ≡ checkUsed (now (s .entry)) used claim ⌝ }
 {
-    match check_kinds(s, n) {
-        Checked::Accepted(found) => check_counted(s, n, claim, found),
-        Checked::Refused(refusal) => Checked::Refused(refusal),
+    if (used % 8 != 0) | (s.len() < used) {
+        return Checked::Refused(Refusal::Length);
     }
+    check_records(s, used / 8, claim)
 }

@@ -4,7 +4,8 @@ mod claimed;
 mod fields;
 mod records;
 
-use checking::check_records;
+use checking::Claim;
+use checking::check_used;
 pub use claimed::check_as;
 use majority::Counts;
 pub use records::put_record;
@@ -77,8 +78,5 @@ pub fn refusal_record(refusal: Refusal) -> usize
 pub fn check(s: &[u8], used: usize) -> Checked
     ensures { λ r. ⌜ saidCheck r ≡ checkOf (now (s .entry)) used ⌝ }
 {
-    if (used % 8 != 0) | (s.len() < used) {
-        return Checked::Refused(Refusal::Length);
-    }
-    check_records(s, used / 8)
+    check_used(s, used, Claim::Any)
 }

@@ -1,28 +1,15 @@
--- `tables::check` meets its contract: refusal 1, and then the records.
+-- `tables::check` meets its contract: the check with no claim.
+use borrow.Author.Needs.{needs}
 use mathlib.Core.Path.{_∙_}
-use Prim.Native.Nat.{_≤_, _%_}
-use native.Mathlib.Omega.{arith}
-use borrow.Author.Tests.{ltb-false}
-use mathlib.Core.Bool.{not}
-use lib.Dec.{eqb}
-use lib.ListN.{length}
-use Rattle.majority.proofs.Logic.{neither}
-use Rattle.tables.specs.Calls.{checkOf}
+use Rattle.tables.proofs.Claims.{used-any}
 use Rattle.tables.proofs.check.Statement.{statement}
 use Rattle.tables.proofs.check.Tie as tie
 
+check-used-requires : tie.Need-check-used-requires
+check-used-requires c κs = search needs
+
 returns : tie.Need-returns
-unfolding checkOf
-returns c = rw (c .if1 .taken)
-
-check-records-requires : tie.Need-check-records-requires
-check-records-requires c κs = let a = c .before .before .args in
-    let h : a .used ≤ length (a .s .now) = ltb-false _ _ (neither (not (eqb (a .used % 8) 0)) _ (c .if1 .left) .1) in
-    omega arith
-
-returns-2 : tie.Need-returns-2
-unfolding checkOf
-returns-2 c = c .check-records .ensures ∙ rw (c .before .if1 .left)
+returns c = c .check-used .ensures ∙ used-any _ _
 
 pub check-spec : {M : Type 1} → statement M
-check-spec = tie.close (tie.spec returns check-records-requires returns-2)
+check-spec = tie.close (tie.spec check-used-requires returns)
