@@ -21,7 +21,8 @@ use Rattle.tables.specs.Sound.{Sound, tableIn}
 use Rattle.tables.specs.declared.Checked.{Checked}
 use Rattle.tables.specs.declared.checking.Claim.the-variants.{Any, Only}
 use Rattle.tables.specs.Calls.{badLength, checkOf}
-use Rattle.tables.specs.Claimed.{otherCounts, checkKinds, checkCounted, checkClaimed, checkUnder, checkUsed, claimedCheck}
+use Rattle.tables.specs.Claimed.{otherCounts, checkKinds, checkCounted, checkClaimed, claimedCheck}
+use Rattle.tables.specs.Under.{checkUnder, checkUsed}
 use Rattle.tables.proofs.Runs.{or-true}
 use Rattle.tables.proofs.After.{same-table, checked-table, checked-sound}
 

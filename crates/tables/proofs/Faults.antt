@@ -1,5 +1,5 @@
 -- The first fault, sought in each run of records by its kind, is the first of the table; and what it makes of `checkFields`.
-use Prim.Native.Nat.{ℕ, _+_, _-_, _≤_, _<_}
+use Prim.Native.Nat.{ℕ, _+_, _-_, _*_, _/_, _≤_, _<_}
 use mathlib.Core.Path.{_≡_, sym, ap, subst, _∙_}
 use mathlib.Core.Bool.{Bool, not}
 use mathlib.Core.List.{List}
@@ -16,7 +16,7 @@ use Rattle.majority.specs.declared.Counts.{Counts}
 use Rattle.majority.proofs.Logic.{passed}
 use Rattle.majority.proofs.Seek.{seek-start, holds-there, all-fail, seek-found, seek-past, same-found}
 use Rattle.majority.proofs.Order.{InOrder, all-counted, in-order}
-use Rattle.tables.specs.Bytes.{recordIn, recordAs, tableOf}
+use Rattle.tables.specs.Bytes.{recordIn, recordAs, recordsOf, tableOf}
 use Rattle.tables.specs.Runs.{faultyAs}
 use Rattle.tables.specs.Claimed.{checkKinds}
 use Rattle.tables.proofs.Decoded.{length-table, table-at}
@@ -85,9 +85,9 @@ module _ (xs : List ℕ) (n : ℕ) (c : Counts) where
     unfolding checkFields
     fault-end h = rw (length-table xs n, ← is, le-ltb bad n h)
 
-    module _ (h : bad < n) (r : Record) (er : r ≡ recordIn xs bad) (f : ℕ) (ef : f ≡ faultOf last bad r) where
+    module _ (fits : 8 * n ≤ length xs) (h : bad < n) (r : Record) (er : r ≡ recordAt (recordsOf xs) bad) (f : ℕ) (ef : f ≡ faultOf last bad r) where
       fault-is : faultOf last bad (recordAt rs bad) ≡ f
-      fault-is = ap (faultOf last bad) (table-at xs n bad h ∙ sym er) ∙ sym ef
+      fault-is = ap (faultOf last bad) (table-at xs n bad h ∙ sym (er ∙ table-at xs (length xs / 8) bad (omega arith))) ∙ sym ef
 
       pub fault-stop : checkFields c rs ≡ refused f bad
       unfolding checkFields

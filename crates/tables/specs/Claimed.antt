@@ -1,5 +1,5 @@
 -- What the check replies on records whose counts are claimed (SPEC 7): the used length is that of the bytes, and other counts are refused with 3.
-use Prim.Native.Nat.{ℕ, _/_, _%_}
+use Prim.Native.Nat.{ℕ, _%_}
 use mathlib.Core.Bool.{Bool, not, _||_}
 use mathlib.Core.List.{List}
 use lib.ListN.{length}
@@ -9,10 +9,7 @@ use Rattle.majority.specs.Seek.{first}
 use Rattle.majority.specs.Check.{Reply, accepted, refused, andThen, badKindAt, countsOf, badCounts, checkFields}
 use Rattle.majority.specs.declared.Record.{Record}
 use Rattle.majority.specs.declared.Counts.{Counts}
-use Rattle.tables.specs.declared.checking.Claim.{Claim}
-use Rattle.tables.specs.declared.checking.Claim.the-variants.{Any, Only}
-use Rattle.tables.specs.Bytes.{tableOf, recordsOf}
-use Rattle.tables.specs.Calls.{badLength}
+use Rattle.tables.specs.Bytes.{recordsOf}
 
 -- the counts claimed are not those found
 abbrev pub otherCounts : Counts → Counts → Bool
@@ -32,19 +29,6 @@ checkCounted claim rs found = if badCounts found || otherCounts claim found then
 -- 2 to 5 of records whose counts are claimed
 unfoldable pub checkClaimed : Counts → List Record → Reply Counts
 checkClaimed claim rs = andThen (checkKinds rs) (checkCounted claim rs)
-
--- the counts claimed where `found` are found: with no claim they are the same
-abbrev pub claimedOf : Claim → Counts → Counts
-claimedOf Any found = found
-claimedOf (Only claim) found = claim
-
--- 2 to 5 of records with such a claim
-unfoldable pub checkUnder : Claim → List Record → Reply Counts
-checkUnder claim rs = andThen (checkKinds rs) (λ found. checkCounted (claimedOf claim found) rs found)
-
--- the check of the first used bytes of xs with such a claim
-unfoldable pub checkUsed : List ℕ → ℕ → Claim → Reply Counts
-checkUsed xs used claim = if badLength xs used then refused 1 0 else checkUnder claim (tableOf xs (used / 8))
 
 -- the check of all bytes of xs
 unfoldable pub claimedCheck : List ℕ → Counts → Reply Counts

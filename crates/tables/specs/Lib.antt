@@ -5,3 +5,4 @@ pub mod Said
 pub mod Sound
 pub mod Calls
 pub mod Claimed
+pub mod Under

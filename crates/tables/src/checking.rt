@@ -3,7 +3,7 @@ use crate::Checked;
 use crate::Refusal;
 use crate::fields::get;
 use crate::records::record_as;
-use crate::records::record_in;
+use crate::records::record_at;
 use majority::Counts;
 use majority::GATE;
 use majority::INPUT;
@@ -20,7 +20,8 @@ ghost use Rattle.majority.specs.Check.{accepted, badCounts, notZero, past, badE
 ghost use Rattle.tables.specs.Bytes.{tableOf};
 ghost use Rattle.tables.specs.Said.{faultNumber, saidCheck};
 ghost use Rattle.tables.specs.Runs.{runEnd, faultyAs};
-ghost use Rattle.tables.specs.Claimed.{otherCounts, checkKinds, checkCounted, claimedOf, checkUnder, checkUsed};
+ghost use Rattle.tables.specs.Claimed.{otherCounts, checkKinds, checkCounted};
+ghost use Rattle.tables.specs.Under.{claimedOf, checkUnder, checkUsed};
 
 // The first record from `from` on, of n records, that is of another kind; n where there is none.
 fn run_end(s: &[u8], from: usize, n: usize, kind: u16) -> usize
@@ -143,7 +144,7 @@ fn check_fields(s: &[u8], n: usize, counts: Counts) -> Checked
     let last = counts.inputs + counts.gates;
     let bad = first_fault(s, n, counts);
     if bad < n {
-        match fault_of(last, bad, record_in(s, bad)) {
+        match fault_of(last, bad, record_at(s, bad)) {
             Fault::Nothing => {}
             Fault::NotZero => return Checked::Refused(Refusal::NotZero(bad)),
             Fault::Edge => return Checked::Refused(Refusal::Edge(bad)),

@@ -6,7 +6,7 @@ ghost use mathlib.Core.Path.{_≡_};
 ghost use Prim.Native.Nat.{_+_, _*_, _<_};
 ghost use lib.ListN.{length};
 ghost use Rattle.majority.specs.Table.{recordAt};
-ghost use Rattle.tables.specs.Bytes.{recordIn, recordAs, recordsOf, fieldOf, putRecord};
+ghost use Rattle.tables.specs.Bytes.{recordAs, recordsOf, fieldOf, putRecord};
 
 // Record i, which the slice holds whole, as one of this kind.
 pub(crate) fn record_as(s: &[u8], i: usize, kind: u16) -> Record
@@ -19,14 +19,6 @@ pub(crate) fn record_as(s: &[u8], i: usize, kind: u16) -> Record
         e2: get(s, 4 * i + 2),
         e3: get(s, 4 * i + 3),
     }
-}
-
-// Record i, which the slice holds whole.
-pub(crate) fn record_in(s: &[u8], i: usize) -> Record
-    requires { ⌜ 8 * i + 7 < length (now s) ⌝ }
-    ensures { λ r. ⌜ r ≡ recordIn (now (s .entry)) i ⌝ }
-{
-    record_as(s, i, get(s, 4 * i))
 }
 
 // Field d of record i, or 0 where the slice does not hold the record whole.

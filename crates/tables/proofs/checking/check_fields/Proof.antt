@@ -14,8 +14,8 @@ add-last c = let r = c .before .before in
 first-fault-requires : tie.Need-first-fault-requires
 first-fault-requires c κs = c .before .before .pre
 
-record-in-requires : tie.Need-record-in-requires
-record-in-requires c κs = search needs
+record-at-requires : tie.Need-record-at-requires
+record-at-requires c κs = search needs
 
 fault-of-requires : tie.Need-fault-of-requires
 fault-of-requires c κs = let r = c .before .before .before .before .before in
@@ -30,18 +30,18 @@ enum-told-2 c = search needs
 
 returns : tie.Need-returns
 returns c = let d = c .before .before in
-    sym (fault-stop _ _ _ _ (d .before .before .before .first-fault .ensures) (d .before .before .if1 .taken) _ (d .before .record-in .ensures) _ (sym (ap faultNumber (c .enum-told2 .given .1)) ∙ d .fault-of .ensures))
+    sym (fault-stop _ _ _ _ (d .before .before .before .first-fault .ensures) (d .before .before .before .before .before .before .pre .0) (d .before .before .if1 .taken) _ (d .before .record-at .ensures) _ (sym (ap faultNumber (c .enum-told2 .given .1)) ∙ d .fault-of .ensures))
 
 enum-told-3 : tie.Need-enum-told-3
 enum-told-3 c = search needs
 
 returns-2 : tie.Need-returns-2
 returns-2 c = let d = c .before .before in
-    sym (fault-stop _ _ _ _ (d .before .before .before .first-fault .ensures) (d .before .before .if1 .taken) _ (d .before .record-in .ensures) _ (sym (ap faultNumber (c .enum-told3 .given .1)) ∙ d .fault-of .ensures))
+    sym (fault-stop _ _ _ _ (d .before .before .before .first-fault .ensures) (d .before .before .before .before .before .before .pre .0) (d .before .before .if1 .taken) _ (d .before .record-at .ensures) _ (sym (ap faultNumber (c .enum-told3 .given .1)) ∙ d .fault-of .ensures))
 
 returns-3 : tie.Need-returns-3
 returns-3 c = let d = c .before .before in
-    absurd (fault-there _ _ (d .before .before .before .before .before .before .args .counts) _ (d .before .before .before .first-fault .ensures) (d .before .before .if1 .taken) _ (d .before .record-in .ensures) _ (d .fault-of .ensures) (ap faultNumber (c .enum-told .given .1)))
+    absurd (fault-there _ _ (d .before .before .before .before .before .before .args .counts) _ (d .before .before .before .first-fault .ensures) (d .before .before .before .before .before .before .pre .0) (d .before .before .if1 .taken) _ (d .before .record-at .ensures) _ (d .fault-of .ensures) (ap faultNumber (c .enum-told .given .1)))
 
 returns-4 : tie.Need-returns-4
 returns-4 c = sym (fault-end _ _ _ _ (c .before .first-fault .ensures) (c .if1 .left))
@@ -52,7 +52,7 @@ check-fields-spec =
     (tie.spec
     add-last
     first-fault-requires
-    record-in-requires
+    record-at-requires
     fault-of-requires
     enum-told
     enum-told-2

@@ -8,7 +8,8 @@ use Rattle.majority.specs.declared.Counts.{Counts}
 use Rattle.tables.specs.declared.checking.Claim.{Claim}
 use Rattle.tables.specs.Bytes.{tableOf}
 use Rattle.tables.specs.Said.{saidCheck}
-use Rattle.tables.specs.Claimed.{checkCounted, claimedOf, checkUnder}
+use Rattle.tables.specs.Claimed.{checkCounted}
+use Rattle.tables.specs.Under.{claimedOf, checkUnder}
 use Rattle.tables.proofs.After.{then-accepted, then-refused}
 use Rattle.tables.proofs.checking.check_records.Statement.{statement}
 use Rattle.tables.proofs.checking.check_records.Tie as tie
