@@ -141,6 +141,8 @@ def chosen(words, uses):
 
 
 def main(words):
+    if not shutil.which("rt"):
+        sys.exit("edits: the Rattle kit's command rt is not on the PATH")
     whole = "--whole" in words
     uses = listed()
     edits = chosen([word for word in words if word != "--whole"], uses)
