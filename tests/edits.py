@@ -3,8 +3,8 @@
 ones, or those of other files) on the crates as they were last proved. The prover must refuse each.
 
 An edit is written as rt's are: after 'file: F', each pair 'old: TEXT' and 'new: TEXT' puts one text of that file for another that
-stands in it once. For each of its edits rt checks the whole crate. Here the crate is checked once as it stands, and then each
-edit over what that check left, so that only what depends on the edited text is checked again; --whole does as rt does.
+stands in it once. For each of its edits rt checks the whole crate. Here an edit is checked over what the proof of the crate has
+left, so that only what depends on the edited text is checked again; --whole does as rt does.
 
 An edit passes where the crate is not proved with it, and what the prover names first is a fact that is not so. Where the proof
 only no longer fits the code's shape, the edit shows nothing and fails. What the prover said is in target/quick/CRATE/EDIT.log.
@@ -81,13 +81,26 @@ def check(copy, uses, left, log):
     return done.returncode, done.stdout
 
 
-def prepared(crate, uses, room):
-    """Checks the crate as it stands; the folder with what that left."""
+def kept(room):
+    """The name of the folder in which the prover keeps what it has checked, as an empty crate shows it; None where it keeps nothing."""
+    (room / "empty" / "src").mkdir(parents=True)
+    (room / "empty" / "src" / "lib.rt").touch()
+    check(room / "empty", [], room / "shown", LOGS / "empty.log")
+    names = [path.name for path in room.glob("shown/*")]
+    return names[0] if len(names) == 1 else None
+
+
+def prepared(crate, uses, name, room):
+    """Checks the crate as it stands; the folder with what that left. What the crate's proof has checked is in its rlib, and is laid
+    where the prover looks for it; what is not found there is checked here, which only takes longer."""
     folder = room / crate
-    status, said = check(copied(crate, folder), uses, folder / "left", LOGS / crate / "as-it-stands.log")
+    left, checked = folder / "left", RLIBS / f"{crate}.rlib" / "toolchain" / "checked"
+    if name and checked.is_dir():
+        shutil.copytree(checked, left / name)
+    status, said = check(copied(crate, folder), uses, left, LOGS / crate / "as-it-stands.log")
     if status != 0 or not re.search("^logic=proved", said, re.M):
         raise BadEdit("the crate is not proved as it stands")
-    return folder / "left"
+    return left
 
 
 def refused(crate, uses, edit, left, room):
@@ -151,7 +164,8 @@ def main(words):
     with tempfile.TemporaryDirectory(dir=ROOT / "target") as folder, concurrent.futures.ThreadPoolExecutor(os.cpu_count()) as pool:
         room = pathlib.Path(folder)
         crates = [] if whole else dict.fromkeys(crate for crate, _ in edits)
-        preparing = {crate: pool.submit(prepared, crate, uses[crate], room) for crate in crates}
+        name = None if whole else kept(room)
+        preparing = {crate: pool.submit(prepared, crate, uses[crate], name, room) for crate in crates}
         trials = [pool.submit(tried, crate, uses[crate], edit, preparing.get(crate), room) for crate, edit in edits]
         for trial in trials:
             passed, line = trial.result()
