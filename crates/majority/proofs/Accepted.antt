@@ -13,10 +13,10 @@ use Rattle.majority.specs.If.{if_then_else_}
 use Rattle.majority.specs.Edge.{nodeOf}
 use Rattle.majority.specs.Seek.{first}
 use Rattle.majority.specs.Table.{input, output, recordAt, Below, WellFormed, WithinLimits}
-use Rattle.majority.specs.Check.{counts, accepted, badKindAt, count, countsOf, badCounts, past, faultOf, faultyAt, checkFields, checkRecords}
+use Rattle.majority.specs.Check.{counts, accepted, badKindAt, count, countsOf, badCounts, past, faultOf, faultyAt, checkFields, checkKinds, checkRecords}
 use Rattle.majority.specs.declared.Record.{Record}
 use Rattle.majority.specs.declared.Counts.{Counts}
-use Rattle.majority.proofs.Logic.{neither, passed}
+use Rattle.majority.proofs.Logic.{neither, passed, passed-on}
 use Rattle.majority.proofs.Seek.{all-fail, nothing-there}
 use Rattle.majority.proofs.Order.{InOrder, in-order, all-counted, order-good, order-counts}
 
@@ -114,9 +114,9 @@ formed-of n m o rs all s fine = record {
 }
 
 pub acceptance : (n m o : ℕ) (rs : List Record) → checkRecords rs ≡ accepted (counts n m o) → Accepted n m o rs
-unfolding checkRecords checkFields faultyAt
+unfolding checkRecords checkKinds checkFields faultyAt
 acceptance n m o rs e =
-    let s1 = passed _ 2 _ _ _ e in
+    let s1 = passed-on _ 2 _ (countsOf rs) _ _ e in
     let s2 = passed (badCounts (countsOf rs)) 3 0 (checkFields (countsOf rs) rs) _ (s1 .1) in
     let last = count 1 rs + count 2 rs in
     let bad = first (faultyAt last rs) (length rs) in
@@ -147,7 +147,7 @@ fine-of n m o rs f j h = go (decLt j n) (decLt j (n + m))
     go (no p) (no q) = let w = f .outputs j (omega arith) h in of-output _ j _ (w .0) (w .1)
 
 pub accepts : (n m o : ℕ) (rs : List Record) → Accepted n m o rs → checkRecords rs ≡ accepted (counts n m o)
-unfolding checkRecords checkFields faultyAt
+unfolding checkRecords checkKinds checkFields faultyAt
 accepts n m o rs a =
     let order = order-of n m o rs (a .formed) in
     let w = order-counts rs n m o (a .formed .whole) order in

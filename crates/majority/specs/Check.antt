@@ -81,10 +81,12 @@ checkFields c rs =
     let bad = first (faultyAt last rs) (length rs) in
     if ltb bad (length rs) then refused (faultOf last bad (recordAt rs bad)) bad else accepted c
 
--- 2 over all records, for the first bad one, then 3, then 4 and 5
-unfoldable pub checkRecords : List Record → Reply Counts
-checkRecords rs =
+-- 2 over all records, for the first bad one, or the counts found
+unfoldable pub checkKinds : List Record → Reply Counts
+checkKinds rs =
     let bad = first (badKindAt rs) (length rs) in
-    if ltb bad (length rs) then refused 2 bad
-    else if badCounts (countsOf rs) then refused 3 0
-    else checkFields (countsOf rs) rs
+    if ltb bad (length rs) then refused 2 bad else accepted (countsOf rs)
+
+-- 2, then 3, then 4 and 5
+unfoldable pub checkRecords : List Record → Reply Counts
+checkRecords rs = andThen (checkKinds rs) (λ c. if badCounts c then refused 3 0 else checkFields c rs)

@@ -8,12 +8,12 @@ use borrow.Author.Tests.{eq-eqb, le-ltb}
 use lib.ListN.{length, take}
 use lib.Seq.{length-take-le}
 use Rattle.majority.specs.Seek.{firstFrom}
-use Rattle.majority.specs.Check.{Reply, accepted, refused, andThen, count}
+use Rattle.majority.specs.Check.{Reply, accepted, refused, andThen, count, checkKinds}
 use Rattle.majority.specs.declared.Record.{Record}
 use Rattle.majority.specs.declared.Counts.{Counts}
 use Rattle.tables.specs.Bytes.{decode, tableOf}
 use Rattle.tables.specs.Calls.{checkOf}
-use Rattle.tables.specs.Claimed.{checkKinds, checkCounted, checkClaimed, claimedCheck}
+use Rattle.tables.specs.Claimed.{checkCounted, checkClaimed, claimedCheck}
 use Rattle.tables.proofs.Decoded.{table-take}
 use Rattle.tables.proofs.Encoded.{accepted-records}
 use Rattle.tables.proofs.Claims.{accepted-claimed}

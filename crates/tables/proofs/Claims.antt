@@ -11,7 +11,7 @@ use lib.ListN.{length}
 use Rattle.majority.specs.If.{if_then_else_}
 use Rattle.majority.specs.Seek.{first}
 use Rattle.majority.specs.Table.{recordAt}
-use Rattle.majority.specs.Check.{Reply, accepted, refused, andThen, badKindAt, countsOf, badCounts, faultOf, faultyAt, checkFields, checkRecords}
+use Rattle.majority.specs.Check.{Reply, accepted, refused, andThen, badKindAt, countsOf, badCounts, faultOf, faultyAt, checkFields, checkKinds, checkRecords}
 use Rattle.majority.specs.declared.Record.{Record}
 use Rattle.majority.specs.declared.Counts.{Counts}
 use Rattle.majority.proofs.Logic.{neither, passed}
@@ -21,7 +21,7 @@ use Rattle.tables.specs.Sound.{Sound, tableIn}
 use Rattle.tables.specs.declared.Checked.{Checked}
 use Rattle.tables.specs.declared.checking.Claim.the-variants.{Any, Only}
 use Rattle.tables.specs.Calls.{badLength, checkOf}
-use Rattle.tables.specs.Claimed.{otherCounts, checkKinds, checkCounted, checkClaimed, claimedCheck}
+use Rattle.tables.specs.Claimed.{otherCounts, checkCounted, checkClaimed, claimedCheck}
 use Rattle.tables.specs.Under.{checkUnder, checkUsed}
 use Rattle.tables.proofs.Runs.{or-true}
 use Rattle.tables.proofs.After.{same-table, checked-table, checked-sound}
@@ -78,13 +78,8 @@ module _ (rs : List Record) where
 
   -- the plain check is that of the counts found
   pub records-counted : checkRecords rs ≡ andThen (checkKinds rs) (λ c. checkCounted c rs c)
-  unfolding checkRecords checkKinds
-  records-counted = go (ltb (first (badKindAt rs) (length rs)) (length rs))
-    where
-      go : (t : Bool) → (if t then refused 2 (first (badKindAt rs) (length rs)) else if badCounts (countsOf rs) then refused 3 0 else checkFields (countsOf rs) rs)
-          ≡ andThen (if t then refused 2 (first (badKindAt rs) (length rs)) else accepted (countsOf rs)) (λ c. checkCounted c rs c)
-      go true = refl
-      go false = sym (counted-own (countsOf rs) rs)
+  unfolding checkRecords
+  records-counted = kinds-then _ (λ c. checkCounted c rs c) (sym (counted-own (countsOf rs) rs))
 
   accepted-then : (claim c : Counts) (kinds : Reply Counts) → andThen kinds (checkCounted claim rs) ≡ accepted c → (andThen kinds (λ d. checkCounted d rs d) ≡ accepted c) × (claim ≡ c)
   accepted-then claim c (refused k i) e = let z : _≡_ {A = ℕ} 0 1 = cc in absurd (omega arith)

@@ -10,7 +10,7 @@ use lib.Dec.{ltb, eqb}
 use lib.ListN.{length}
 use Rattle.majority.specs.Seek.{firstFrom, first}
 use Rattle.majority.specs.Table.{recordAt}
-use Rattle.majority.specs.Check.{accepted, refused, badKindAt, countsOf, faultOf, faultyAt, checkFields}
+use Rattle.majority.specs.Check.{accepted, refused, badKindAt, countsOf, faultOf, faultyAt, checkFields, checkKinds}
 use Rattle.majority.specs.declared.Record.{Record}
 use Rattle.majority.specs.declared.Counts.{Counts}
 use Rattle.majority.proofs.Logic.{passed}
@@ -18,7 +18,6 @@ use Rattle.majority.proofs.Seek.{seek-start, holds-there, all-fail, seek-found,
 use Rattle.majority.proofs.Order.{InOrder, all-counted, in-order}
 use Rattle.tables.specs.Bytes.{recordIn, recordAs, recordsOf, tableOf}
 use Rattle.tables.specs.Runs.{faultyAs}
-use Rattle.tables.specs.Claimed.{checkKinds}
 use Rattle.tables.proofs.Decoded.{length-table, table-at}
 
 module _ (xs : List ℕ) (n : ℕ) (c : Counts) where

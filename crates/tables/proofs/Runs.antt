@@ -11,12 +11,11 @@ use lib.Dec.{ltb}
 use lib.ListN.{length}
 use Rattle.majority.specs.Seek.{first}
 use Rattle.majority.specs.Table.{recordAt}
-use Rattle.majority.specs.Check.{counts, accepted, refused, badKind, kindBefore, badKindAt}
+use Rattle.majority.specs.Check.{counts, accepted, refused, badKind, kindBefore, badKindAt, checkKinds}
 use Rattle.majority.specs.declared.Record.{Record}
 use Rattle.majority.proofs.Seek.{found-at, found-in, fails-before, holds-there, nothing-there}
 use Rattle.majority.proofs.Order.{InOrder, order-good, order-counts}
 use Rattle.tables.specs.Runs.{otherKind, runEnd}
-use Rattle.tables.specs.Claimed.{checkKinds}
 
 -- one run
 module _ (rs : List Record) (n k from : ℕ) (inside : from ≤ n) where

@@ -5,8 +5,7 @@ use mathlib.Core.List.{List}
 use lib.ListN.{length}
 use lib.Dec.{ltb, eqb}
 use Rattle.majority.specs.If.{if_then_else_}
-use Rattle.majority.specs.Seek.{first}
-use Rattle.majority.specs.Check.{Reply, accepted, refused, andThen, badKindAt, countsOf, badCounts, checkFields}
+use Rattle.majority.specs.Check.{Reply, refused, andThen, badCounts, checkFields, checkKinds}
 use Rattle.majority.specs.declared.Record.{Record}
 use Rattle.majority.specs.declared.Counts.{Counts}
 use Rattle.tables.specs.Bytes.{recordsOf}
@@ -15,12 +14,6 @@ use Rattle.tables.specs.Bytes.{recordsOf}
 abbrev pub otherCounts : Counts → Counts → Bool
 otherCounts claim found =
     not (eqb (claim .inputs) (found .inputs)) || not (eqb (claim .gates) (found .gates)) || not (eqb (claim .outputs) (found .outputs))
-
--- 2 over all records, for the first bad one, or the counts found
-unfoldable pub checkKinds : List Record → Reply Counts
-checkKinds rs =
-    let bad = first (badKindAt rs) (length rs) in
-    if ltb bad (length rs) then refused 2 bad else accepted (countsOf rs)
 
 -- 3, for the counts found or for others claimed, then 4 and 5
 unfoldable pub checkCounted : Counts → List Record → Counts → Reply Counts

@@ -2,14 +2,14 @@
 use Prim.Native.Nat.{ℕ, _/_}
 use mathlib.Core.List.{List}
 use Rattle.majority.specs.If.{if_then_else_}
-use Rattle.majority.specs.Check.{Reply, refused, andThen}
+use Rattle.majority.specs.Check.{Reply, refused, andThen, checkKinds}
 use Rattle.majority.specs.declared.Record.{Record}
 use Rattle.majority.specs.declared.Counts.{Counts}
 use Rattle.tables.specs.declared.checking.Claim.{Claim}
 use Rattle.tables.specs.declared.checking.Claim.the-variants.{Any, Only}
 use Rattle.tables.specs.Bytes.{tableOf}
 use Rattle.tables.specs.Calls.{badLength}
-use Rattle.tables.specs.Claimed.{checkKinds, checkCounted}
+use Rattle.tables.specs.Claimed.{checkCounted}
 
 -- the counts claimed where `found` are found: with no claim they are the same
 abbrev pub claimedOf : Claim → Counts → Counts

@@ -16,11 +16,11 @@ ghost use mathlib.Core.Path.{_≡_};
 ghost use Prim.Native.Nat.{_+_, _-_, _*_, _≤_};
 ghost use lib.ListN.{length};
 ghost use Rattle.majority.specs.Seek.{firstFrom, first};
-ghost use Rattle.majority.specs.Check.{accepted, badCounts, notZero, past, badEdge, faultOf, faultyAt, checkFields};
+ghost use Rattle.majority.specs.Check.{accepted, badCounts, notZero, past, badEdge, faultOf, faultyAt, checkFields, checkKinds};
 ghost use Rattle.tables.specs.Bytes.{tableOf};
 ghost use Rattle.tables.specs.Said.{faultNumber, saidCheck};
 ghost use Rattle.tables.specs.Runs.{runEnd, faultyAs};
-ghost use Rattle.tables.specs.Claimed.{otherCounts, checkKinds, checkCounted};
+ghost use Rattle.tables.specs.Claimed.{otherCounts, checkCounted};
 ghost use Rattle.tables.specs.Under.{claimedOf, checkUnder, checkUsed};
 
 // The first record from `from` on, of n records, that is of another kind; n where there is none.
