@@ -1,5 +1,5 @@
 -- What edits of records leave in a buffer (SPEC 5.2).
-use Prim.Native.Nat.{ℕ, _+_, _-_, _*_, _/_, _%_}
+use Prim.Native.Nat.{ℕ, _-_, _*_, _/_, _%_}
 use mathlib.Core.Bool.{Bool, _||_}
 use mathlib.Core.List.{List, _∷_, _++_, map}
 use lib.Dec.{eqb, ltb, leb}

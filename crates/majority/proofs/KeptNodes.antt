@@ -114,10 +114,6 @@ module _ (keep : ℕ → Bool) where
   unfolding renumber
   renumber-parity x = omega arith
 
-  pub renumber-lower : (x : ℕ) → renumber keep x ≤ x
-  unfolding renumber
-  renumber-lower x = omega (arith, kept-lower (nodeOf x))
-
   pub renumber-zero : renumber keep 0 ≡ 0
   unfolding renumber
   renumber-zero = refl

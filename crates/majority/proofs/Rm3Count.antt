@@ -1,11 +1,11 @@
 -- How many records a translation has: what each edge, gate, node and output adds, and so the operand of each node.
-use Prim.Native.Nat.{ℕ, zero, suc, _+_, _-_, _<_}
-use mathlib.Core.Path.{_≡_, _∙_}
+use Prim.Native.Nat.{ℕ, zero, suc, _+_, _-_}
+use mathlib.Core.Path.{_≡_}
 use mathlib.Core.Bool.{Bool, true, false}
 use mathlib.Core.List.{List, [], _∷_, _++_}
 use native.Mathlib.Omega.{arith}
 use lib.Dec.{eqb}
-use lib.ListN.{length, getD, take}
+use lib.ListN.{length, getD}
 use Rattle.majority.specs.If.{if_then_else_}
 use Rattle.majority.specs.Edge.{nodeOf}
 use Rattle.majority.specs.Table.{input, output}
@@ -14,9 +14,9 @@ use Rattle.majority.specs.Rm3.{operation}
 use Rattle.majority.specs.Translate.{after, Class, constant, plain, inverted, classOf, isConstant, needsHelper, Placed, place, inOrder, gate3, nodes3, outputs3}
 use Rattle.majority.specs.Count3.{helperCount, helpersOf, gateOperations, outputOperations, total}
 use Rattle.majority.specs.declared.Record.{Record}
-use Rattle.majority.proofs.Begins.{begins-last, length-more}
+use Rattle.majority.proofs.Begins.{length-more}
 use Rattle.majority.proofs.Rm3Gate.{middleOf}
-use Rattle.majority.proofs.Rm3Nodes.{named, nodes-begin}
+use Rattle.majority.proofs.Rm3Nodes.{named}
 
 pub place-length : (isMiddle : Bool) (operands : List ℕ) (e : ℕ) (ts : List Record) → length (place isMiddle operands e ts .table) ≡ length ts + helperCount isMiddle (classOf e)
 unfolding place
@@ -75,17 +75,3 @@ outputs-length operands ts os [] = omega arith
 outputs-length operands ts os (r ∷ rs) =
     let p = place false operands (r .e1) ts in
     omega (arith, outputs-length operands (p .table) (os ++ output (p .operand) ∷ []) rs, place-length false operands (r .e1) ts)
-
--- a node's operand is the last of the table so far
-pub nodes-operand : (operands : List ℕ) (ts rs : List Record) (j : ℕ) → j < length rs
-    → getD (nodes3 operands ts rs .operands) (length operands + j) 0 ≡ length ts + total nodeRecords (take (suc j) rs) + 1
-unfolding total
-nodes-operand operands ts [] j h = absurd (omega arith)
-nodes-operand operands ts (r ∷ rs) zero h =
-    let next = after operands ts r in
-    let e : length operands + 0 ≡ length operands = omega arith in
-    rw e (begins-last operands (length next + 1) (nodes-begin (named operands next) next rs .0) ∙ omega (arith, after-length operands ts r))
-nodes-operand operands ts (r ∷ rs) (suc j) h =
-    let next = after operands ts r in
-    let e : length operands + suc j ≡ length (named operands next) + j = omega (arith, length-more operands (length next + 1)) in
-    rw e (nodes-operand (named operands next) next rs j (omega arith) ∙ omega (arith, after-length operands ts r))

@@ -3,13 +3,12 @@ use Prim.Native.Nat.{ℕ, zero, suc, _+_, _-_, _≤_, _<_, max}
 use mathlib.Core.Path.{_≡_}
 use mathlib.Core.List.{List}
 use native.Mathlib.Omega.{arith}
-use Rattle.majority.specs.Table.{recordAt}
-use Rattle.majority.specs.Level.{above, levels, highest}
+use Rattle.majority.specs.Level.{levels, highest}
 use Rattle.majority.specs.Rm3.{byKind3, operandWorth, level3, WellFormed3}
 use Rattle.majority.specs.declared.Record.{Record}
 use Rattle.majority.proofs.Nodes.{node-induction}
 use Rattle.majority.proofs.Levels.{above-least, depth-more}
-use Rattle.majority.proofs.Rm3Worth.{Lower, false-worth, true-worth, reads-lower3, formed3-eq, operation-eq}
+use Rattle.majority.proofs.Rm3Worth.{Lower, false-worth, true-worth, reads-lower3, formed3-eq}
 
 by-kind3-most : (k i p o d l : ℕ) → i ≤ l → p ≤ l → o ≤ l → d ≤ l → byKind3 k i p o d ≤ l
 by-kind3-most zero i p o d l a b c e = e
@@ -19,9 +18,6 @@ by-kind3-most (suc (suc (suc zero))) i p o d l a b c e = c
 by-kind3-most (suc (suc (suc (suc k)))) i p o d l a b c e = b
 
 module _ {n p o : ℕ} {ts : List Record} (formed : WellFormed3 n p o ts) where
-  pub operation-level : (j : ℕ) → n ≤ j → j < n + p → level3 ts (j + 2) ≡ above (level3 ts (recordAt ts j .e1)) (level3 ts (recordAt ts j .e2)) (level3 ts (recordAt ts j .e3))
-  operation-level = operation-eq formed levels
-
   -- an operand's level is at most its number
   pub level3-at-most : (k : ℕ) → k ≤ n + p + o + 1 → level3 ts k ≤ k
   unfolding operandWorth

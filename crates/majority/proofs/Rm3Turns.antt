@@ -1,15 +1,14 @@
 -- The translation as a loop takes it: what each input, gate and output in turn makes of what is left, and where nothing is.
-use Prim.Native.Nat.{ℕ, suc, _+_, _≤_, _<_}
+use Prim.Native.Nat.{ℕ, suc, _+_, _<_}
 use mathlib.Core.Path.{_≡_, sym, ap, _∙_}
 use mathlib.Core.Bool.{false}
 use mathlib.Core.List.{List, [], _∷_, _++_}
 use native.Mathlib.Omega.{arith}
 use lib.ListN.{take, drop}
 use lib.Seq.{drop-cons, drop-length, getD-take}
-use Rattle.majority.specs.Table.{blank, input, output, recordAt, WellFormed}
-use Rattle.majority.specs.Translate.{after, place, gate3, nodes3, outputs3}
+use Rattle.majority.specs.Table.{blank, output, recordAt, WellFormed}
+use Rattle.majority.specs.Translate.{after, place, nodes3, outputs3}
 use Rattle.majority.specs.declared.Record.{Record}
-use Rattle.majority.proofs.Formed.{kind-two}
 use Rattle.majority.proofs.Rm3Nodes.{named}
 use Rattle.majority.proofs.Rm3Formed.{front}
 
@@ -20,14 +19,6 @@ module _ {n m o : ℕ} {rs : List Record} (formed : WellFormed n m o rs) (operan
   turn j h next is =
       rw (drop-cons (take (n + m) rs) j blank (omega (arith, front formed)), getD-take (n + m) rs j blank h)
       (ap (λ (us : List Record). nodes3 (named operands us) us (drop (suc j) (take (n + m) rs))) is)
-
-  pub input-turn : (j : ℕ) → j < n
-      → let next = ts ++ input ∷ [] in nodes3 operands ts (drop j (take (n + m) rs)) ≡ nodes3 (named operands next) next (drop (suc j) (take (n + m) rs))
-  input-turn j h = turn j (omega arith) _ (ap (after operands ts) (formed .inputs j h))
-
-  pub gate-turn : (j : ℕ) → n ≤ j → j < n + m
-      → let next = gate3 operands (recordAt rs j) ts in nodes3 operands ts (drop j (take (n + m) rs)) ≡ nodes3 (named operands next) next (drop (suc j) (take (n + m) rs))
-  gate-turn j l h = turn j h _ (kind-two (recordAt rs j .kind) _ _ _ _ (formed .gates j l h .0))
 
   pub nodes-end : (j : ℕ) → j ≡ n + m → nodes3 operands ts (drop j (take (n + m) rs)) ≡ record { operands = operands; table = ts }
   nodes-end j e = ap (nodes3 operands ts) (ap (λ (k : ℕ). drop k (take (n + m) rs)) (e ∙ sym (front formed)) ∙ drop-length (take (n + m) rs))

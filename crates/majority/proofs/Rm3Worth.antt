@@ -1,5 +1,5 @@
 -- What the operands of an RM3 table are worth: the constants, and the equation that each record meets.
-use Prim.Native.Nat.{ℕ, _+_, _-_, _≤_, _<_}
+use Prim.Native.Nat.{ℕ, _+_, _-_, _<_}
 use mathlib.Core.Path.{_≡_, refl, ap, _∙_}
 use mathlib.Core.List.{List, [], _∷_}
 use native.Mathlib.Omega.{arith}
@@ -7,7 +7,7 @@ use native.Mathlib.Decide.{decLt}
 use lib.ListN.{length}
 use Rattle.majority.specs.Table.{blank, output, recordAt}
 use Rattle.majority.specs.Node.{Meaning}
-use Rattle.majority.specs.Rm3.{operation, byKind3, operandWorth, worth3, WellFormed3}
+use Rattle.majority.specs.Rm3.{operation, operandWorth, worth3, WellFormed3}
 use Rattle.majority.specs.declared.Record.{Record}
 use Rattle.majority.proofs.Pass.{pass-eq, pass-keeps}
 
@@ -16,9 +16,6 @@ pub record Lower (b : ℕ) (r : Record) : Type 0 where
   pub first : r .e1 < b
   pub second : r .e2 < b
   pub third : r .e3 < b
-
-pub lower-more : (b b′ : ℕ) (r : Record) → b ≤ b′ → Lower b r → Lower b′ r
-lower-more b b′ r h low = record { first = omega (arith, low .first); second = omega (arith, low .second); third = omega (arith, low .third) }
 
 module _ {A : Type 0} (𝓜 : Meaning A) where
   -- a record's worth is made of the operands that it reads alone
@@ -44,34 +41,18 @@ module _ {A : Type 0} (𝓜 : Meaning A) where
       rw (two j)
       (pass-eq (operandWorth 𝓜) (𝓜 .constant) blank Lower operand-agrees 2 (𝓜 .constant ∷ 𝓜 .inverse (𝓜 .constant) ∷ []) ts refl (λ i l. rw (← two i) (low i l)) j h)
 
-kind-four : {A : Type 0} (k : ℕ) (i p o d : A) → k ≡ 4 → byKind3 k i p o d ≡ p
-kind-four k i p o d e = rw e
-
 output-lower : (b : ℕ) (r : Record) → r ≡ output (r .e1) → r .e1 < b → Lower b r
 output-lower b r is h = record { first = h; second = rw is (omega arith); third = rw is (omega arith) }
 
 module _ {n p o : ℕ} {ts : List Record} (formed : WellFormed3 n p o ts) where
-  -- record j reads operands below both its own number and the table's end
-  reads3 : (j : ℕ) → j < n + p + o → Lower (j + 2) (recordAt ts j) × Lower (n + p + 2) (recordAt ts j)
-  reads3 j h = go (decLt j n) (decLt j (n + p))
-    where
-      go : Dec (j < n) → Dec (j < n + p) → Lower (j + 2) (recordAt ts j) × Lower (n + p + 2) (recordAt ts j)
-      go (yes l) _ =
-          rw (formed .inputs j l)
-          (record { first = omega arith; second = omega arith; third = omega arith }, record { first = omega arith; second = omega arith; third = omega arith })
-      go (no l) (yes q) =
-          let w = formed .operations j (omega arith) q in
-          let low : Lower (j + 2) (recordAt ts j) = record { first = w .1; second = w .2; third = w .3 } in
-          (low, lower-more _ _ _ (omega arith) low)
-      go (no l) (no q) =
-          let w = formed .outputs j (omega arith) h in
-          (output-lower _ _ (w .0) (omega (arith, w .1)), output-lower _ _ (w .0) (w .1))
-
+  -- record j reads operands below its own number
   pub reads-lower3 : (j : ℕ) → j < length ts → Lower (j + 2) (recordAt ts j)
-  reads-lower3 j h = reads3 j (omega (arith, formed .whole)) .0
-
-  pub reads-operands : (j : ℕ) → j < length ts → Lower (n + p + 2) (recordAt ts j)
-  reads-operands j h = reads3 j (omega (arith, formed .whole)) .1
+  reads-lower3 j h = go (decLt j n) (decLt j (n + p))
+    where
+      go : Dec (j < n) → Dec (j < n + p) → Lower (j + 2) (recordAt ts j)
+      go (yes l) _ = rw (formed .inputs j l) (record { first = omega arith; second = omega arith; third = omega arith })
+      go (no l) (yes q) = let w = formed .operations j (omega arith) q in record { first = w .1; second = w .2; third = w .3 }
+      go (no l) (no q) = let w = formed .outputs j (omega arith) (omega (arith, formed .whole)) in output-lower _ _ (w .0) (omega (arith, w .1))
 
   -- what record j is worth
   pub formed3-eq : {A : Type 0} (𝓜 : Meaning A) (j : ℕ) → j < n + p + o → worth3 𝓜 ts (j + 2) ≡ operandWorth 𝓜 (worth3 𝓜 ts) (j + 2) (recordAt ts j)
@@ -83,12 +64,7 @@ module _ {n p o : ℕ} {ts : List Record} (formed : WellFormed3 n p o ts) where
       let e : j + 2 - 1 ≡ j + 1 = omega arith in
       formed3-eq 𝓜 j (omega arith) ∙ rw (formed .inputs j h, e)
 
-  pub operation-eq : {A : Type 0} (𝓜 : Meaning A) (j : ℕ) → n ≤ j → j < n + p
-      → worth3 𝓜 ts (j + 2) ≡ 𝓜 .gate (worth3 𝓜 ts (recordAt ts j .e1)) (𝓜 .inverse (worth3 𝓜 ts (recordAt ts j .e2))) (worth3 𝓜 ts (recordAt ts j .e3))
-  unfolding operandWorth
-  operation-eq 𝓜 j l h = formed3-eq 𝓜 j (omega arith) ∙ kind-four (recordAt ts j .kind) _ _ _ _ (formed .operations j l h .0)
-
-  -- where it is this operation
+  -- what it is worth where it is this operation
   pub operation-worth : {A : Type 0} (𝓜 : Meaning A) (j x y z : ℕ) → j < length ts → recordAt ts j ≡ operation x y z
       → worth3 𝓜 ts (j + 2) ≡ 𝓜 .gate (worth3 𝓜 ts x) (𝓜 .inverse (worth3 𝓜 ts y)) (worth3 𝓜 ts z)
   unfolding operandWorth

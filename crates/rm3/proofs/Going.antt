@@ -28,16 +28,6 @@ gone-start {c} {rs} {ys} {operands} fresh = record {
   laid = record { size = refl; table = λ i h. absurd (omega arith); outputs = λ i h. absurd (omega arith); rest = refl };
 }
 
--- a pass that begins with the bytes as they are now
-pub gone-here : {c : Counts} {rs : List Record} {ys operands xs : List ℕ} {i at : ℕ} → Gone c rs ys i at operands xs → Gone c rs xs i at operands xs
-gone-here so = record {
-  table = so .table;
-  here = so .here;
-  room = so .room;
-  turned = so .turned;
-  laid = record { size = refl; table = so .laid .table; outputs = so .laid .outputs; rest = refl };
-}
-
 -- past the operations the bytes are as they were
 pub gone-rest : {c : Counts} {rs : List Record} {ys operands xs : List ℕ} {i at : ℕ} (k : ℕ) → Gone c rs ys i at operands xs
     → drop (8 * (operandsIn rs c + k)) xs ≡ drop (8 * (operandsIn rs c + k)) ys

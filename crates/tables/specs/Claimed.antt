@@ -3,7 +3,7 @@ use Prim.Native.Nat.{ℕ, _%_}
 use mathlib.Core.Bool.{Bool, not, _||_}
 use mathlib.Core.List.{List}
 use lib.ListN.{length}
-use lib.Dec.{ltb, eqb}
+use lib.Dec.{eqb}
 use Rattle.majority.specs.If.{if_then_else_}
 use Rattle.majority.specs.Check.{Reply, refused, andThen, badCounts, checkFields, checkKinds}
 use Rattle.majority.specs.declared.Record.{Record}
