@@ -1,4 +1,3 @@
 pub mod Asks
 pub mod Makes
-pub mod Opens
 pub mod Parts

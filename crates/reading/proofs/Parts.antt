@@ -1,4 +1,4 @@
--- A reading's part and counts are accepted where the check accepts the table, and refused with 3 where it does not.
+-- A reading that is had from an accepted table answers as the plain calls do on that table; of a refused one it is refused with 3.
 use Prim.Native.Nat.{ℕ, _/_}
 use mathlib.Core.Path.{_≡_, refl}
 use mathlib.Core.List.{List, []}
@@ -11,7 +11,7 @@ use Rattle.majority.specs.Seek.{firstFrom}
 use Rattle.majority.specs.Check.{Reply, accepted, refused, andThen, count, checkKinds}
 use Rattle.majority.specs.declared.Record.{Record}
 use Rattle.majority.specs.declared.Counts.{Counts}
-use Rattle.tables.specs.Bytes.{decode, tableOf}
+use Rattle.tables.specs.Bytes.{decode, tableOf, recordsOf}
 use Rattle.tables.specs.Calls.{checkOf}
 use Rattle.tables.specs.Claimed.{checkCounted, checkClaimed, claimedCheck}
 use Rattle.tables.proofs.Decoded.{table-take}
@@ -19,19 +19,16 @@ use Rattle.tables.proofs.Encoded.{accepted-records}
 use Rattle.tables.proofs.Claims.{accepted-claimed}
 use Rattle.questions.specs.Calls.{evaluateOf, reportOf, valueOf, sizeOf}
 use Rattle.questions.specs.Claimed.{claimedEvaluate, claimedReport}
-use Rattle.reading.specs.Held.{claim, found, foundIn, partIn, countsIn, orThree, readCheck, readEvaluate, readReport}
-
--- no records and no counts: 3
-none-claimed : claimedCheck [] (claim 0 0 0) ≡ refused 3 0
-unfolding claimedCheck checkClaimed checkKinds checkCounted decode count firstFrom
-none-claimed = refl
+use Rattle.rm3.specs.Calls.{rm3In, rm3Of}
+use Rattle.rm3.specs.Claimed.{claimedRm3}
+use Rattle.reading.specs.Held.{claim, foundIn, partIn, countsIn}
 
 module _ (xs : List ℕ) (used : ℕ) where
   module _ (c : Counts) (is : checkOf xs used ≡ accepted c) where
     part-length : length (take used xs) ≡ used
     part-length = length-take-le used xs (accepted-records xs used c is .1)
 
-    part-table : tableOf (take used xs) (length (take used xs) / 8) ≡ tableOf xs (used / 8)
+    part-table : recordsOf (take used xs) ≡ tableOf xs (used / 8)
     part-table = rw part-length (table-take xs used (used / 8) (omega arith))
 
     part-check : checkOf (take used xs) (length (take used xs)) ≡ accepted c
@@ -40,48 +37,35 @@ module _ (xs : List ℕ) (used : ℕ) where
         let w = accepted-records xs used c is in
         rw (part-length, eq-eqb _ _ (w .0), le-ltb used used (le-refl used), table-take xs used (used / 8) (omega arith)) (w .2)
 
-    part-claimed : claimedCheck (take used xs) c ≡ accepted c
-    part-claimed = accepted-claimed (take used xs) c part-check
+    pub read-check : claimedCheck (partIn xs used) (countsIn xs used) ≡ checkOf xs used
+    unfolding foundIn
+    read-check = rw is (accepted-claimed (take used xs) c part-check)
 
-  pub read-check : claimedCheck (partIn xs used) (countsIn xs used) ≡ readCheck xs used
-  unfolding foundIn readCheck
-  read-check = go (checkOf xs used) refl
-    where
-      go : (k : Reply Counts) → checkOf xs used ≡ k
-          → claimedCheck (take (found used k .used) xs) (claim (found used k .inputs) (found used k .gates) (found used k .outputs)) ≡ orThree k
-      go (accepted c) e = part-claimed c e
-      go (refused k i) e = none-claimed
+    -- what follows the check
+    read-then : {A : Type 0} (f : List Record → Counts → Reply A)
+        → andThen (claimedCheck (partIn xs used) (countsIn xs used)) (f (recordsOf (partIn xs used))) ≡ andThen (checkOf xs used) (f (tableOf xs (used / 8)))
+    unfolding foundIn
+    read-then f = rw (is, accepted-claimed (take used xs) c part-check, part-table)
 
-  -- what follows the check
-  read-then : {A : Type 0} (f : List Record → Counts → Reply A)
-      → andThen (claimedCheck (partIn xs used) (countsIn xs used)) (f (tableOf (partIn xs used) (length (partIn xs used) / 8))) ≡ andThen (readCheck xs used) (f (tableOf xs (used / 8)))
-  unfolding foundIn readCheck
-  read-then f = go (checkOf xs used) refl
-    where
-      go : (k : Reply Counts) → checkOf xs used ≡ k
-          → andThen (claimedCheck (take (found used k .used) xs) (claim (found used k .inputs) (found used k .gates) (found used k .outputs))) (f (tableOf (take (found used k .used) xs) (length (take (found used k .used) xs) / 8)))
-          ≡ andThen (orThree k) (f (tableOf xs (used / 8)))
-      go (accepted c) e = rw (part-claimed c e, part-table c e)
-      go (refused k i) e = rw none-claimed
+    pub read-evaluate : (a : ℕ) → claimedEvaluate (partIn xs used) (countsIn xs used) a ≡ evaluateOf xs used a
+    unfolding claimedEvaluate evaluateOf
+    read-evaluate a = read-then (valueOf a)
 
-  pub read-evaluate : (a : ℕ) → claimedEvaluate (partIn xs used) (countsIn xs used) a ≡ readEvaluate xs used a
-  unfolding claimedEvaluate readEvaluate
-  read-evaluate a = read-then (valueOf a)
+    pub read-report : claimedReport (partIn xs used) (countsIn xs used) ≡ reportOf xs used
+    unfolding claimedReport reportOf
+    read-report = read-then (λ (rs : List Record) (k : Counts). accepted (sizeOf rs k))
 
-  pub read-report : claimedReport (partIn xs used) (countsIn xs used) ≡ readReport xs used
-  unfolding claimedReport readReport
-  read-report = read-then (λ (rs : List Record) (k : Counts). accepted (sizeOf rs k))
+    -- the RM3 table, of which both the reply and the bytes are told
+    pub read-rm3 : (room : ℕ) → claimedRm3 (partIn xs used) (countsIn xs used) room ≡ rm3Of xs used room
+    unfolding claimedRm3 rm3Of
+    read-rm3 room = read-then (rm3In room)
 
-  -- on an accepted table these are the plain calls' replies
-  module _ (c : Counts) (is : checkOf xs used ≡ accepted c) where
-    pub read-plain-check : readCheck xs used ≡ checkOf xs used
-    unfolding readCheck
-    read-plain-check = rw is
+  -- no records and no counts: 3
+  none-claimed : claimedCheck [] (claim 0 0 0) ≡ refused 3 0
+  unfolding claimedCheck checkClaimed checkKinds checkCounted decode count firstFrom
+  none-claimed = refl
 
-    pub read-plain-evaluate : (a : ℕ) → readEvaluate xs used a ≡ evaluateOf xs used a
-    unfolding readEvaluate evaluateOf
-    read-plain-evaluate a = rw read-plain-check
-
-    pub read-plain-report : readReport xs used ≡ reportOf xs used
-    unfolding readReport reportOf
-    read-plain-report = rw read-plain-check
+  -- every question of a reading begins with this check
+  pub read-refused : (k i : ℕ) → checkOf xs used ≡ refused k i → claimedCheck (partIn xs used) (countsIn xs used) ≡ refused 3 0
+  unfolding foundIn
+  read-refused k i is = rw is none-claimed

@@ -1,13 +1,10 @@
 -- What a reading holds (SPEC 7): records, and their three counts as one claim.
-use Prim.Native.Nat.{ℕ, _/_}
+use Prim.Native.Nat.{ℕ}
 use mathlib.Core.List.{List}
 use lib.ListN.{take}
-use Rattle.majority.specs.Check.{Reply, accepted, refused, andThen, counts}
+use Rattle.majority.specs.Check.{Reply, accepted, refused, counts}
 use Rattle.majority.specs.declared.Counts.{Counts}
-use Rattle.tables.specs.Bytes.{tableOf}
 use Rattle.tables.specs.Calls.{checkOf}
-use Rattle.questions.specs.Calls.{valueOf, sizeOf}
-use Rattle.questions.specs.declared.Size.{Size}
 use Rattle.reading.specs.declared.Found.{Found}
 use Rattle.reading.specs.declared.Reading.{Reading}
 
@@ -34,18 +31,3 @@ partIn xs used = take (foundIn xs used .used) xs
 
 abbrev pub countsIn : List ℕ → ℕ → Counts
 countsIn xs used = claim (foundIn xs used .inputs) (foundIn xs used .gates) (foundIn xs used .outputs)
-
--- where the check refuses, no reading is had: 3
-abbrev pub orThree : Reply Counts → Reply Counts
-orThree (accepted c) = accepted c
-orThree (refused k i) = refused 3 0
-
--- what the reading of the first used bytes of xs replies
-unfoldable pub readCheck : List ℕ → ℕ → Reply Counts
-readCheck xs used = orThree (checkOf xs used)
-
-unfoldable pub readEvaluate : List ℕ → ℕ → ℕ → Reply ℕ
-readEvaluate xs used a = andThen (readCheck xs used) (valueOf a (tableOf xs (used / 8)))
-
-unfoldable pub readReport : List ℕ → ℕ → Reply Size
-readReport xs used = andThen (readCheck xs used) (λ c. accepted (sizeOf (tableOf xs (used / 8)) c))

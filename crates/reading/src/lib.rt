@@ -16,7 +16,7 @@ ghost use Rattle.questions.specs.Said.{saidValue, saidReport};
 ghost use Rattle.questions.specs.Claimed.{claimedEvaluate, claimedReport};
 ghost use Rattle.rm3.specs.Said.{saidTranslate};
 ghost use Rattle.rm3.specs.Claimed.{claimedTranslate, claimedBytes};
-ghost use Rattle.reading.specs.Held.{claim, claimed, foundIn, partIn, countsIn, readCheck, readEvaluate, readReport};
+ghost use Rattle.reading.specs.Held.{claim, claimed, foundIn, partIn, countsIn};
 
 // Nothing of a reading is trusted: each question checks the records and the counts again.
 pub struct Reading<'a> {
@@ -123,7 +123,8 @@ pub fn hold<'a>(records: &'a [u8], inputs: usize, gates: usize, outputs: usize) 
     }
 }
 
-// Holds the table that the first used bytes of s hold, with its counts; where there is none, no records and no counts.
+// Holds the table that the first used bytes of s hold, with its counts: had only from an accepted table. Of a refused one it holds no
+// records and no counts, which every question refuses with 3.
 pub fn read<'a>(s: &'a [u8], used: usize) -> Reading<'a>
     ensures { λ r. ⌜ (now (r .records) ≡ partIn (now (s .entry)) used) × (claimed r ≡ countsIn (now (s .entry)) used) ⌝ }
 {
@@ -199,23 +200,4 @@ pub fn translated_as(
     ensures { λ r. ⌜ (saidTranslate r ≡ claimedTranslate (now (records .entry)) (claim inputs gates outputs) (length (now (out .entry)))) × (now (out .exit) ≡ claimedBytes (now (records .entry)) (claim inputs gates outputs) (now (out .entry))) ⌝ }
 {
     translate(hold(records, inputs, gates, outputs), out)
-}
-
-// The same of the table that the first used bytes of s hold, asked of its reading: a table that the check refuses is refused with 3.
-pub fn checked(s: &[u8], used: usize) -> Checked
-    ensures { λ r. ⌜ saidCheck r ≡ readCheck (now (s .entry)) used ⌝ }
-{
-    check(read(s, used))
-}
-
-pub fn evaluated(s: &[u8], used: usize, assignment: u32) -> Valued
-    ensures { λ r. ⌜ saidValue r ≡ readEvaluate (now (s .entry)) used assignment ⌝ }
-{
-    evaluate(read(s, used), assignment)
-}
-
-pub fn reported(s: &[u8], used: usize) -> Reported
-    ensures { λ r. ⌜ saidReport r ≡ readReport (now (s .entry)) used ⌝ }
-{
-    report(read(s, used))
 }
