@@ -1,12 +1,10 @@
 -- One step takes a buffer that holds an accepted table to another such buffer, and keeps what it must between the two tables.
-use Prim.Native.Nat.{ℕ, _*_, _/_, _%_, _≤_, _<_}
+use Prim.Native.Nat.{ℕ, _*_, _/_, _%_, _≤_}
 use mathlib.Core.Path.{_≡_, refl, sym, _∙_}
 use mathlib.Core.List.{List}
 use native.Mathlib.Omega.{arith}
 use borrow.Author.Tests.{le-ltb, eq-eqb}
-use lib.ListN.{length, length-append, length-drop, length-replicate}
-use lib.Seq.{ext-getD}
-use Rattle.majority.specs.Table.{blank}
+use lib.ListN.{length}
 use Rattle.majority.specs.Kept.{Kept}
 use Rattle.majority.specs.Check.{counts, Reply, accepted, refused, andThen, checkRecords, count}
 use Rattle.majority.specs.Step.{step, deepens}
@@ -16,12 +14,11 @@ use Rattle.majority.proofs.Kept.{kept-same}
 use Rattle.majority.proofs.Steps.{step-kept, step-fits, step-accepted}
 use Rattle.tables.specs.Bytes.{tableOf}
 use Rattle.tables.specs.Calls.{checkOf}
-use Rattle.tables.proofs.Decoded.{length-table, table-at}
 use Rattle.tables.proofs.Encoded.{accepted-records}
-use Rattle.editing.proofs.Held.{length-encode, encoded-at}
 use Rattle.rewriting.specs.Applied.{stored, afterReply}
 use Rattle.rewriting.specs.Calls.{stepTable, stepOf, stepBytes}
 use Rattle.rewriting.specs.Script.{replyTo, bytesAfter}
+use Rattle.rewriting.proofs.Onward.{stored-length, stored-table}
 
 -- from the buffer xs, whose table has m gates, to the buffer ys: ys holds an accepted table, and depth has risen by at most δ
 pub record Between (δ n m o : ℕ) (xs : List ℕ) (used : ℕ) (ys : List ℕ) (end : ℕ) : Type 0 where
@@ -29,27 +26,17 @@ pub record Between (δ n m o : ℕ) (xs : List ℕ) (used : ℕ) (ys : List ℕ)
   pub holds : checkOf ys end ≡ accepted (counts n gates o)
   pub kept : Kept δ n m gates o (tableOf xs (used / 8)) (tableOf ys (end / 8))
 
--- a stored table is the one that its buffer holds
+-- a stored table is the one that the buffer holds up to the length replied
 module _ (t : List Record) (used : ℕ) (xs : List ℕ) where
-  stored-table : tableOf (stored t used xs) (length t) ≡ t
-  unfolding stored
-  stored-table =
-      ext-getD blank (tableOf (stored t used xs) (length t)) t (length-table _ (length t))
-      (λ j h. let l : j < length t = omega (arith, length-table (stored t used xs) (length t)) in table-at _ (length t) j l ∙ encoded-at t _ j l)
-
-  stored-length : used ≤ length xs → 8 * length t ≤ length xs → length (stored t used xs) ≡ length xs
-  unfolding stored
-  stored-length h fits = simp (length-append, length-drop, length-replicate) (omega (arith, length-encode t))
-
   last-table : tableOf (stored t used xs) (8 * length t / 8) ≡ t
-  last-table = let e : 8 * length t / 8 ≡ length t = omega arith in rw e stored-table
+  last-table = let e : 8 * length t / 8 ≡ length t = omega arith in rw e (stored-table t used xs)
 
   -- and is checked as its records are
   stored-check : used ≤ length xs → 8 * length t ≤ length xs → checkOf (stored t used xs) (8 * length t) ≡ checkRecords t
   unfolding checkOf
   stored-check h fits =
       let e : 8 * length t % 8 ≡ 0 = omega arith in
-      let l : 8 * length t ≤ length (stored t used xs) = omega (arith, stored-length h fits) in
+      let l : 8 * length t ≤ length (stored t used xs) = omega (arith, stored-length t used xs h fits) in
       rw (eq-eqb _ _ e, le-ltb _ _ l, last-table)
 
 -- the table that the step r makes of that of n inputs and m gates in xs, or the refusal

@@ -2,11 +2,11 @@
 use Prim.Native.Nat.{ℕ, _+_, _*_, _/_, _≤_, _<_}
 use mathlib.Core.Path.{_≡_}
 use mathlib.Core.List.{List, [], _∷_}
-use lib.ListN.{take}
+use lib.ListN.{length, take}
 use Rattle.majority.specs.Table.{Below, WellFormed}
 use Rattle.majority.specs.Value.{outputValue}
 use Rattle.majority.specs.Level.{depth}
-use Rattle.majority.specs.Check.{accepted, counts}
+use Rattle.majority.specs.Check.{Reply, accepted, counts}
 use Rattle.majority.specs.Edit.{nodeRecord}
 use Rattle.majority.specs.Step.{deepens}
 use Rattle.majority.specs.Rm3.{WellFormed3, outputValue3, depth3}
@@ -14,7 +14,7 @@ use Rattle.majority.specs.declared.Record.{Record}
 use Rattle.tables.specs.Bytes.{tableOf}
 use Rattle.tables.specs.Calls.{checkOf}
 use Rattle.rewriting.specs.Script.{Run, stepsOf, scriptRun}
-use Rattle.rm3.specs.Calls.{rm3Of}
+use Rattle.rm3.specs.Calls.{translateOf, translateBytes}
 
 -- how many of these steps are of associativity or distributivity, rules 3, 4 and 5
 unfoldable pub deepening : List Record → ℕ
@@ -65,6 +65,14 @@ Demand3 =
     → checkOf xs used ≡ accepted (counts n m o)
     → Keeps n m o (tableOf xs (used / 8)) (runScripts xs used scripts)
 
+-- what `translate` then replies, where out is the buffer given for the RM3 table
+abbrev pub replyAfter : After → List ℕ → Reply ℕ
+replyAfter after out = translateOf (after .bytes) (after .used) (length out)
+
+-- the records in the first l bytes that it leaves in out
+abbrev pub rm3After : After → List ℕ → ℕ → List Record
+rm3After after out l = tableOf (translateBytes (after .bytes) (after .used) out) (l / 8)
+
 -- from the first table, by what scripts leave, to the RM3 table ts
 pub record KeepsRm3 (n m o : ℕ) (first : List Record) (after : After) (ts : List Record) : Type 0 where
   -- how many gates there are now, and how many operations
@@ -80,10 +88,10 @@ pub record KeepsRm3 (n m o : ℕ) (first : List Record) (after : After) (ts : Li
   -- a depth of at most twice the table's plus one
   pub deep : depth3 n operations ts ≤ 2 * depth n gates (tableAfter after) + 1
 
--- for every buffer, used length and scripts, and for every second buffer of so many bytes that holds the RM3 table ts
+-- for every buffer, used length and scripts, and for every buffer out: where the first check accepts and `translate` replies the length l, all this is so of the bytes that it leaves
 unfoldable pub Demand3Rm3 : Type 0
 Demand3Rm3 =
-    (xs : List ℕ) (used : ℕ) (scripts : List (List ℕ)) (n m o room : ℕ) (ts : List Record)
+    (xs : List ℕ) (used : ℕ) (scripts : List (List ℕ)) (out : List ℕ) (n m o l : ℕ)
     → checkOf xs used ≡ accepted (counts n m o)
-    → rm3Of (runScripts xs used scripts .bytes) (runScripts xs used scripts .used) room ≡ accepted ts
-    → KeepsRm3 n m o (tableOf xs (used / 8)) (runScripts xs used scripts) ts
+    → replyAfter (runScripts xs used scripts) out ≡ accepted l
+    → KeepsRm3 n m o (tableOf xs (used / 8)) (runScripts xs used scripts) (rm3After (runScripts xs used scripts) out l)

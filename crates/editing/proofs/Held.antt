@@ -1,61 +1,17 @@
 -- A buffer that holds a table at its front: its records are the table's, and it is that table told byte by byte.
-use Prim.Native.Nat.{ℕ, zero, suc, _+_, _-_, _*_, _/_, _%_, _≤_, _<_}
-use mathlib.Core.Path.{_≡_, refl, sym, ap, ap₂, _∙_}
-use mathlib.Core.List.{List, [], _∷_, _++_}
+use Prim.Native.Nat.{ℕ, _+_, _-_, _*_, _≤_, _<_}
+use mathlib.Core.Path.{_≡_, refl, sym, ap, _∙_}
+use mathlib.Core.List.{List}
 use native.Mathlib.Omega.{arith}
-use lib.ListN.{length, getD, drop, set, length-append, length-drop, length-set}
-use lib.Seq.{getD-append-add, drop-at, drop-drop, getD-set-same, getD-set-other}
+use lib.ListN.{length, drop, set, length-append, length-drop, length-set}
+use lib.Seq.{drop-at, drop-drop, getD-set-same, getD-set-other}
 use Rattle.majority.specs.Table.{blank, recordAt}
 use Rattle.majority.specs.declared.Record.{Record}
-use Rattle.tables.specs.Field.{joined, fieldAt}
-use Rattle.tables.specs.Bytes.{recordIn, tableOf, recordBytes, encode, putRecord}
+use Rattle.tables.specs.Bytes.{tableOf, encode, putRecord}
 use Rattle.tables.proofs.Decoded.{length-table, table-at}
-use Rattle.tables.proofs.Encoded.{Bytes}
+use Rattle.tables.proofs.Encoded.{Bytes, length-encode, encoded-at}
 use Rattle.editing.specs.Edited.{holding}
 use Rattle.editing.proofs.Stored.{Stored, stored-same, stored-put, stored-table, stored-holding}
-
-pub length-encode : (t : List Record) → length (encode t) ≡ 8 * length t
-unfolding encode
-length-encode [] = refl
-length-encode (r ∷ t) = omega (arith, length-encode t)
-
--- the bytes of one record
-abbrev eight : Record → List ℕ
-eight r = recordBytes r []
-
--- a field behind the first record, and one of it
-field-behind : (r : Record) (ys : List ℕ) (k : ℕ) → fieldAt (recordBytes r ys) (4 + k) ≡ fieldAt ys k
-unfolding fieldAt
-field-behind r ys k =
-    let low : 2 * (4 + k) ≡ 8 + 2 * k = omega arith in
-    let high : 2 * (4 + k) + 1 ≡ 8 + (2 * k + 1) = omega arith in
-    ap₂ joined
-    (ap (λ (i : ℕ). getD (recordBytes r ys) i 0) low ∙ getD-append-add (eight r) ys (2 * k) 0)
-    (ap (λ (i : ℕ). getD (recordBytes r ys) i 0) high ∙ getD-append-add (eight r) ys (2 * k + 1) 0)
-
-whole : (v : ℕ) → joined (v % 256) (v / 256) ≡ v
-whole v = omega arith
-
-first-record : (r : Record) (ys : List ℕ) → recordIn (recordBytes r ys) 0 ≡ r
-unfolding fieldAt
-first-record r ys = λ d. record { kind = whole (r .kind) d; e1 = whole (r .e1) d; e2 = whole (r .e2) d; e3 = whole (r .e3) d }
-
-later-record : (r : Record) (ys : List ℕ) (j : ℕ) → recordIn (recordBytes r ys) (suc j) ≡ recordIn ys j
-later-record r ys j =
-    let at : (d : ℕ) → fieldAt (recordBytes r ys) (4 * suc j + d) ≡ fieldAt ys (4 * j + d) =
-    λ d. let e : 4 * suc j + d ≡ 4 + (4 * j + d) = omega arith in ap (fieldAt (recordBytes r ys)) e ∙ field-behind r ys (4 * j + d)
-    in
-    let p0 : fieldAt (recordBytes r ys) (4 * suc j) ≡ fieldAt ys (4 * j) = let e : 4 * suc j ≡ 4 + 4 * j = omega arith in ap (fieldAt (recordBytes r ys)) e ∙ field-behind r ys (4 * j) in
-    let p1 = at 1 in
-    let p2 = at 2 in
-    let p3 = at 3 in
-    λ d. record { kind = p0 d; e1 = p1 d; e2 = p2 d; e3 = p3 d }
-
-pub encoded-at : (t : List Record) (rest : List ℕ) (j : ℕ) → j < length t → recordIn (encode t ++ rest) j ≡ recordAt t j
-unfolding encode
-encoded-at [] rest j h = absurd (omega arith)
-encoded-at (r ∷ t) rest zero h = first-record r (encode t ++ rest)
-encoded-at (r ∷ t) rest (suc j) h = later-record r (encode t ++ rest) j ∙ encoded-at t rest j (omega arith)
 
 -- the buffer ys holds the table t, and is otherwise as xs
 abbrev pub Held : List ℕ → List Record → List ℕ → Type 0

@@ -12,7 +12,7 @@ mod Storing
 mod Fits
 mod Taking
 mod Replies
-mod Onward
+pub mod Onward
 mod Turns
 mod Scripts
 pub mod SaidOnce

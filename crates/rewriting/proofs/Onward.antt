@@ -1,11 +1,9 @@
 -- After a step that was taken the buffer holds a sound table of the used length that the step replied.
-use Prim.Native.Nat.{ℕ, _+_, _-_, _*_, _/_, _≤_, _<_}
+use Prim.Native.Nat.{ℕ, _+_, _-_, _*_, _/_, _≤_}
 use mathlib.Core.Path.{_≡_, refl, sym, _∙_}
 use mathlib.Core.List.{List}
 use native.Mathlib.Omega.{arith}
 use lib.ListN.{length, length-append, length-drop, length-replicate}
-use lib.Seq.{ext-getD}
-use Rattle.majority.specs.Table.{blank}
 use Rattle.majority.specs.Check.{Reply, accepted, refused, andThen, count}
 use Rattle.majority.specs.declared.Record.{Record}
 use Rattle.majority.specs.declared.Counts.{Counts}
@@ -13,14 +11,14 @@ use Rattle.majority.proofs.Accepted.{accepts}
 use Rattle.majority.proofs.Steps.{step-fits, step-accepted}
 use Rattle.tables.specs.Bytes.{tableOf}
 use Rattle.tables.specs.Sound.{Sound}
-use Rattle.tables.proofs.Decoded.{length-table, table-at}
+use Rattle.tables.proofs.Encoded.{length-encode, encoded-table}
 use Rattle.tables.proofs.Sound.{sound-accepted}
-use Rattle.editing.proofs.Held.{length-encode, encoded-at}
 use Rattle.rewriting.specs.Applied.{stored, afterReply, usedBy, stepIn}
 use Rattle.rewriting.specs.Calls.{stepOf, stepBytes}
 use Rattle.rewriting.specs.Script.{countsAt}
 use Rattle.rewriting.proofs.Replies.{table-same}
 
+-- a stored table is the one that its buffer holds
 module _ (t : List Record) (used : ℕ) (xs : List ℕ) where
   pub stored-length : used ≤ length xs → 8 * length t ≤ length xs → length (stored t used xs) ≡ length xs
   unfolding stored
@@ -28,9 +26,7 @@ module _ (t : List Record) (used : ℕ) (xs : List ℕ) where
 
   pub stored-table : tableOf (stored t used xs) (length t) ≡ t
   unfolding stored
-  stored-table =
-      ext-getD blank _ _ (length-table _ (length t))
-      (λ j h. let l : j < length t = omega (arith, length-table (stored t used xs) (length t)) in table-at _ (length t) j l ∙ encoded-at t _ j l)
+  stored-table = encoded-table t _
 
 module _ {xs : List ℕ} {c : Counts} (sound : Sound xs c) (rule g a b used : ℕ) (taken : stepOf xs (usedBy c) rule g a b ≡ accepted used) where
   pub record Onward : Type 0 where

@@ -1,4 +1,4 @@
--- What a reply of `translate` tells its caller: the length fits the buffer and covers inputs and outputs, and 25,344 bytes are room for any table.
+-- What a reply of `translate` tells its caller: the length fits the buffer and covers inputs and outputs, the bytes of that length hold the RM3 table, and 25,344 bytes are room for any table.
 use Prim.Native.Nat.{ℕ, _+_, _*_, _/_, _≤_}
 use mathlib.Core.Path.{_≡_, refl, sym, ap, _∙_}
 use mathlib.Core.Bool.{Bool, true, false}
@@ -6,7 +6,7 @@ use mathlib.Core.List.{List}
 use native.Mathlib.Omega.{arith}
 use borrow.Author.Tests.{ltb-false}
 use lib.Dec.{ltb}
-use lib.ListN.{length}
+use lib.ListN.{length, drop}
 use Rattle.majority.specs.If.{if_then_else_}
 use Rattle.majority.specs.Translate.{translation}
 use Rattle.majority.specs.Check.{Reply, accepted, refused, andThen}
@@ -15,8 +15,9 @@ use Rattle.majority.specs.declared.Counts.{Counts}
 use Rattle.tables.specs.Bytes.{tableOf}
 use Rattle.tables.specs.Sound.{tableIn}
 use Rattle.tables.specs.Calls.{checkOf}
+use Rattle.tables.proofs.Encoded.{encoded-table}
 use Rattle.tables.proofs.After.{checked-sound, checked-table}
-use Rattle.rm3.specs.Calls.{rm3In, rm3Of, inBytes, translateOf}
+use Rattle.rm3.specs.Calls.{rm3In, rm3Of, inBytes, translateOf, over, translateBytes}
 use Rattle.rm3.proofs.Fitting.{fitting-size, fitting-small, fitting}
 
 -- a reply is not both
@@ -65,3 +66,16 @@ module _ (xs : List ℕ) (used room : ℕ) (c : Counts) (checked : checkOf xs us
   room-enough h =
       let sound = checked-sound xs used c checked in
       rw (of-accepted, fitting sound room (omega (arith, fitting-small sound)))
+
+-- the records in the bytes that were written, up to the length replied, are the RM3 table
+module _ (xs : List ℕ) (used : ℕ) (ys : List ℕ) (l : ℕ) (c : Counts) (checked : checkOf xs used ≡ accepted c) (is : translateOf xs used (length ys) ≡ accepted l) where
+  abbrev made : List Record
+  made = translation (c .inputs) (c .gates) (tableOf xs (used / 8))
+
+  pub reply-table : tableOf (translateBytes xs used ys) (l / 8) ≡ made
+  unfolding translateOf translateBytes rm3Of
+  reply-table = rw checked (go (ltb (length ys) (8 * length made)) (rw checked at is))
+    where
+      go : (t : Bool) → andThen (if t then refused 11 0 else accepted made) inBytes ≡ accepted l → tableOf (over (if t then refused 11 0 else accepted made) ys) (l / 8) ≡ made
+      go true e = absurd (apart e)
+      go false e = let k : l / 8 ≡ length made = omega (arith, same-length e) in rw k (encoded-table made (drop (8 * length made) ys))

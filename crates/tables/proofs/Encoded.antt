@@ -1,20 +1,23 @@
--- Bytes are the encoding of the records that they hold; so an accepted buffer is the encoding of its table, and the rest.
+-- Bytes are the encoding of the records that they hold, and an encoding holds the records that it encodes; so an accepted buffer is the encoding of its table, and the rest.
 use Prim.Native.Nat.{ℕ, zero, suc, _+_, _*_, _/_, _%_, _≤_, _<_}
-use mathlib.Core.Path.{_≡_, refl, _∙_}
+use mathlib.Core.Path.{_≡_, refl, ap, ap₂, _∙_}
 use mathlib.Core.Bool.{Bool, true, false, not}
-use mathlib.Core.List.{List, _++_}
+use mathlib.Core.List.{List, [], _∷_, _++_}
 use native.Mathlib.Omega.{arith}
 use borrow.Author.Tests.{ltb-false, eqb-true, not-false}
 use lib.Dec.{ltb, eqb}
 use lib.ListN.{length, getD, drop}
-use lib.Seq.{drop-cons}
+use lib.Seq.{drop-cons, getD-append-add, ext-getD}
 use Rattle.majority.specs.If.{if_then_else_}
+use Rattle.majority.specs.Table.{blank, recordAt}
 use Rattle.majority.specs.Check.{accepted, refused, checkRecords}
+use Rattle.majority.specs.declared.Record.{Record}
 use Rattle.majority.specs.declared.Counts.{Counts}
 use Rattle.majority.proofs.Logic.{neither}
-use Rattle.tables.specs.Field.{fieldAt}
+use Rattle.tables.specs.Field.{joined, fieldAt}
 use Rattle.tables.specs.Bytes.{recordIn, decode, tableOf, fieldBytes, recordBytes, encode}
 use Rattle.tables.specs.Calls.{badLength, checkOf}
+use Rattle.tables.proofs.Decoded.{length-table, table-at}
 
 -- every number of the list is a byte
 abbrev pub Bytes : List ℕ → Type 0
@@ -73,3 +76,52 @@ accepted-encoded xs bytes used c e =
     let w = accepted-records xs used c e in
     let h : 8 * (used / 8) ≡ used = omega (arith, w .0) in
     rw h at (as-encoded xs bytes (used / 8) (omega (arith, w .0, w .1)))
+
+-- and the other way: an encoding holds the records that it encodes
+pub length-encode : (t : List Record) → length (encode t) ≡ 8 * length t
+unfolding encode
+length-encode [] = refl
+length-encode (r ∷ t) = omega (arith, length-encode t)
+
+-- the bytes of one record
+abbrev eight : Record → List ℕ
+eight r = recordBytes r []
+
+-- a field behind the first record
+field-behind : (r : Record) (ys : List ℕ) (k : ℕ) → fieldAt (recordBytes r ys) (4 + k) ≡ fieldAt ys k
+unfolding fieldAt
+field-behind r ys k =
+    let low : 2 * (4 + k) ≡ 8 + 2 * k = omega arith in
+    let high : 2 * (4 + k) + 1 ≡ 8 + (2 * k + 1) = omega arith in
+    ap₂ joined
+    (ap (λ (i : ℕ). getD (recordBytes r ys) i 0) low ∙ getD-append-add (eight r) ys (2 * k) 0)
+    (ap (λ (i : ℕ). getD (recordBytes r ys) i 0) high ∙ getD-append-add (eight r) ys (2 * k + 1) 0)
+
+whole : (v : ℕ) → joined (v % 256) (v / 256) ≡ v
+whole v = omega arith
+
+first-record : (r : Record) (ys : List ℕ) → recordIn (recordBytes r ys) 0 ≡ r
+unfolding fieldAt
+first-record r ys = λ d. record { kind = whole (r .kind) d; e1 = whole (r .e1) d; e2 = whole (r .e2) d; e3 = whole (r .e3) d }
+
+later-record : (r : Record) (ys : List ℕ) (j : ℕ) → recordIn (recordBytes r ys) (suc j) ≡ recordIn ys j
+later-record r ys j =
+    let at : (d : ℕ) → fieldAt (recordBytes r ys) (4 * suc j + d) ≡ fieldAt ys (4 * j + d) =
+    λ d. let e : 4 * suc j + d ≡ 4 + (4 * j + d) = omega arith in ap (fieldAt (recordBytes r ys)) e ∙ field-behind r ys (4 * j + d)
+    in
+    let p0 : fieldAt (recordBytes r ys) (4 * suc j) ≡ fieldAt ys (4 * j) = let e : 4 * suc j ≡ 4 + 4 * j = omega arith in ap (fieldAt (recordBytes r ys)) e ∙ field-behind r ys (4 * j) in
+    let p1 = at 1 in
+    let p2 = at 2 in
+    let p3 = at 3 in
+    λ d. record { kind = p0 d; e1 = p1 d; e2 = p2 d; e3 = p3 d }
+
+pub encoded-at : (t : List Record) (rest : List ℕ) (j : ℕ) → j < length t → recordIn (encode t ++ rest) j ≡ recordAt t j
+unfolding encode
+encoded-at [] rest j h = absurd (omega arith)
+encoded-at (r ∷ t) rest zero h = first-record r (encode t ++ rest)
+encoded-at (r ∷ t) rest (suc j) h = later-record r (encode t ++ rest) j ∙ encoded-at t rest j (omega arith)
+
+pub encoded-table : (t : List Record) (rest : List ℕ) → tableOf (encode t ++ rest) (length t) ≡ t
+encoded-table t rest =
+    ext-getD blank _ _ (length-table _ (length t))
+    (λ j h. let l : j < length t = omega (arith, length-table (encode t ++ rest) (length t)) in table-at _ (length t) j l ∙ encoded-at t rest j l)
