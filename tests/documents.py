@@ -4,19 +4,20 @@ built, and compares what each prints with what the document shows.
 
 A command is a line '$ COMMAND' of an indented or a fenced block; lines '> MORE' that follow it go on with it. The lines up to the
 next command or the end of the block are what it prints, standard output and standard error together. Where it prints more,
-less or anything else, or does not end with status 0, it fails. A command that is not to be run here, since it is the gate
+less or anything else, or does not end with status 0, it fails; a command that is to end with another status shows it, by
+'|| echo "status $?"'. A command that is not to be run here, since it is the gate
 itself, takes long or needs what is not at hand, is shown without '$' and without what it prints. Where '$ ' begins a line that
 is no line of a block, that fails as well.
 
 The commands of a document are run in order in a folder of their own, which has the repository's folders and is removed at the
 end; in it ./run NAME is ./run --built NAME, so that nothing is proved here.
 """
-import pathlib, re, shlex, shutil, subprocess, sys, tempfile
+import os, pathlib, re, shlex, shutil, signal, subprocess, sys, tempfile
 
 ROOT = pathlib.Path(__file__).resolve().parent.parent
 PROMPT, MORE = "$ ", "> "
 INDENT = 4 * " "
-SECONDS = 60
+SECONDS = 600  # against a command that hangs; no command measures time
 LINKED = {"crates", "target", "tests"}  # folders that are too large to copy
 RUN = """#!/bin/sh
 case $1 in --*) ;; *) set -- --built "$@" ;; esac
@@ -72,19 +73,22 @@ def room_for_commands(room):
 
 def wrong(command, shown, room):
     """What is wrong with what a command prints, or nothing."""
+    ran = subprocess.Popen(
+        ["bash", "-c", command],
+        cwd=room,
+        stdin=subprocess.DEVNULL,
+        stdout=subprocess.PIPE,
+        stderr=subprocess.STDOUT,
+        start_new_session=True,
+    )
     try:
-        ran = subprocess.run(
-            ["bash", "-c", command],
-            cwd=room,
-            stdin=subprocess.DEVNULL,
-            stdout=subprocess.PIPE,
-            stderr=subprocess.STDOUT,
-            timeout=SECONDS,
-        )
+        printed, _ = ran.communicate(timeout=SECONDS)
     except subprocess.TimeoutExpired:
+        os.killpg(ran.pid, signal.SIGKILL)
+        ran.communicate()
         return f"it did not end within {SECONDS} seconds"
-    if ran.stdout != shown.encode():
-        return f"it printed {ran.stdout!r} and not {shown.encode()!r}"
+    if printed != shown.encode():
+        return f"it printed {printed!r} and not {shown.encode()!r}"
     return f"it ended with status {ran.returncode}" if ran.returncode else ""
 
 
