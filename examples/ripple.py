@@ -4,7 +4,7 @@
 Inputs 1 to 8 are the bits of one number, the lowest first, 9 to 16 those of the other, and 17 is the carry in. Outputs 1
 to 8 are the bits of the sum, and 9 is the carry out. Each bit is drawn as two cells that do not know of each other: the
 sum's, of three gates, and the carry's, of one gate that the sum's cell has as well. So there is something to shorten."""
-from pack import folder_argument, packed
+from pack import folder_argument, packed, store
 from sheet import SWEEP, table
 
 BITS = 8
@@ -34,5 +34,5 @@ def script():
 
 if __name__ == "__main__":
     folder = folder_argument("ripple.py")
-    (folder / "ripple.maj").write_bytes(packed(adder()))
-    (folder / "ripple.steps").write_bytes(packed(script()))
+    store("ripple.py", folder / "ripple.maj", packed(adder()))
+    store("ripple.py", folder / "ripple.steps", packed(script()))

@@ -1,6 +1,6 @@
 #!/usr/bin/env python3
 """sheet.py FOLDER: writes P1 to P8 of the sheet of small tables to a folder, the tables as NAME.maj, the scripts as NAME.steps."""
-from pack import folder_argument, packed
+from pack import folder_argument, packed, store
 
 
 def table(inputs, gates, outputs):
@@ -28,6 +28,6 @@ SCRIPTS = {
 if __name__ == "__main__":
     folder = folder_argument("sheet.py")
     for name, records in TABLES.items():
-        (folder / f"{name}.maj").write_bytes(packed(records))
+        store("sheet.py", folder / f"{name}.maj", packed(records))
     for name, steps in SCRIPTS.items():
-        (folder / f"{name}.steps").write_bytes(packed(steps))
+        store("sheet.py", folder / f"{name}.steps", packed(steps))
