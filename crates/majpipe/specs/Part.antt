@@ -3,10 +3,9 @@ use Prim.Native.Nat.{ℕ, _≤_}
 use mathlib.Core.List.{List}
 use lib.ListN.{length}
 use Rattle.majpipe.specs.declared.input.Part.{Part}
-use Rattle.majpipe.specs.declared.input.Part.the-variants.{Bytes, Cut, TooLong}
+use Rattle.majpipe.specs.declared.input.Part.the-variants.{Bytes, Not}
 
 -- a part that was read whole stands within the buffer
 abbrev pub Within : Part → List ℕ → Type 0
 Within (Bytes n) buffer = n ≤ length buffer
-Within Cut buffer = Unit {0}
-Within (TooLong n) buffer = Unit {0}
+Within (Not f) buffer = Unit {0}

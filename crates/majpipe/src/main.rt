@@ -3,11 +3,15 @@ mod input;
 mod reply;
 
 use input::Claim;
+use input::Fault;
 use input::Part;
 use input::Start;
 use input::Word;
 use libc::STDOUT_FILENO;
 use majority::Counts;
+use program::Called;
+use program::End;
+use program::Program;
 use questions::Reported;
 use questions::Valued;
 use reply::Reply;
@@ -20,14 +24,13 @@ use text::Line;
 // The most bytes that a part may have.
 const PART: usize = 65536;
 
-// What became of a request: it was answered, there was none, or what was wrong.
+// What became of a request: it was answered, there was none, or it cannot be answered.
 enum Outcome {
     Answered,
     End,
-    Cut,
     Unknown(u8),
-    TooLong(u32),
     Unwritten,
+    Not(Fault),
 }
 
 // What becomes of a request whose reply is this.
@@ -40,7 +43,7 @@ fn sent(reply: Reply) -> Outcome {
 
 // The same, where every byte of a buffer follows the reply.
 fn sent_with(reply: Reply, bytes: &[u8]) -> Outcome {
-    if reply.write() && io::write_all(STDOUT_FILENO, bytes) {
+    if reply.write() && program::write_whole(STDOUT_FILENO, bytes) {
         return Outcome::Answered;
     }
     Outcome::Unwritten
@@ -69,10 +72,10 @@ fn valued(answer: Valued) -> Outcome {
 
 // Operation 2: the outputs' number under the assignment, which is read here.
 fn evaluate(table: &[u8], used: usize) -> Outcome {
-    let Word::Number(assignment) = input::read_number() else {
-        return Outcome::Cut;
-    };
-    valued(questions::evaluate(table, used, assignment))
+    match input::read_number() {
+        Word::Number(assignment) => valued(questions::evaluate(table, used, assignment)),
+        Word::Not(fault) => Outcome::Not(fault),
+    }
 }
 
 // Size and depth.
@@ -97,15 +100,9 @@ fn high_half(n: u32) -> u16 {
     (n / 65536) as u16
 }
 
-// Operation 4: one step, whose four numbers are read here; then the table as the step left it.
-fn step(table: &mut [u8], used: usize) -> Outcome {
-    let Word::Number(rule_gate) = input::read_number() else {
-        return Outcome::Cut;
-    };
-    let Word::Number(a_b) = input::read_number() else {
-        return Outcome::Cut;
-    };
-    let stepped = rewriting::step(
+// One step of these numbers, the low half of each 32 bits first; then the table as the step left it.
+fn stepped(table: &mut [u8], used: usize, rule_gate: u32, a_b: u32) -> Outcome {
+    let answer = rewriting::step(
         table,
         used,
         low_half(rule_gate),
@@ -113,9 +110,25 @@ fn step(table: &mut [u8], used: usize) -> Outcome {
         low_half(a_b),
         high_half(a_b),
     );
-    match stepped {
+    match answer {
         Stepped::Used(n) => sent_with(Reply::accepted().number(n), table),
         Stepped::Refused(r) => sent_with(Reply::refused(r).number(0), table),
+    }
+}
+
+// The same, where a and b are still to be read.
+fn step_of(table: &mut [u8], used: usize, rule_gate: u32) -> Outcome {
+    match input::read_number() {
+        Word::Number(a_b) => stepped(table, used, rule_gate, a_b),
+        Word::Not(fault) => Outcome::Not(fault),
+    }
+}
+
+// Operation 4: one step, whose four numbers are read here.
+fn step(table: &mut [u8], used: usize) -> Outcome {
+    match input::read_number() {
+        Word::Number(rule_gate) => step_of(table, used, rule_gate),
+        Word::Not(fault) => Outcome::Not(fault),
     }
 }
 
@@ -139,8 +152,7 @@ fn script(table: &mut [u8], used: usize) -> Outcome {
     let mut buffer = io::large_buffer();
     match input::read_part(&mut buffer) {
         Part::Bytes(n) => run(table, used, &buffer[..n]),
-        Part::Cut => Outcome::Cut,
-        Part::TooLong(n) => Outcome::TooLong(n),
+        Part::Not(fault) => Outcome::Not(fault),
     }
 }
 
@@ -157,42 +169,22 @@ fn translate(table: &[u8], used: usize) -> Outcome {
     let mut buffer = io::large_buffer();
     match input::read_part(&mut buffer) {
         Part::Bytes(n) => translate_to(table, used, &mut buffer[..n]),
-        Part::Cut => Outcome::Cut,
-        Part::TooLong(n) => Outcome::TooLong(n),
-    }
-}
-
-// Answers an operation on a table, which is lent exactly as the request has it, to read or to change.
-fn on_lent(operation: u8, table: &mut [u8], used: usize) -> Outcome {
-    match operation {
-        1 => check(table, used),
-        2 => evaluate(table, used),
-        3 => report(table, used),
-        4 => step(table, used),
-        5 => script(table, used),
-        6 => translate(table, used),
-        _ => Outcome::Unknown(operation),
-    }
-}
-
-// Reads the used length and the table, with which each of these operations begins.
-fn on_table(operation: u8, buffer: &mut [u8]) -> Outcome {
-    let Word::Number(used) = input::read_number() else {
-        return Outcome::Cut;
-    };
-    match input::read_part(buffer) {
-        Part::Bytes(n) => on_lent(operation, &mut buffer[..n], used as usize),
-        Part::Cut => Outcome::Cut,
-        Part::TooLong(n) => Outcome::TooLong(n),
+        Part::Not(fault) => Outcome::Not(fault),
     }
 }
 
 // Operation 7: the outputs' number through a reading, under the assignment, which is read here.
 fn evaluate_reading(records: &[u8], c: Counts) -> Outcome {
-    let Word::Number(assignment) = input::read_number() else {
-        return Outcome::Cut;
-    };
-    valued(reading::evaluated_as(records, c.inputs, c.gates, c.outputs, assignment))
+    match input::read_number() {
+        Word::Number(assignment) => valued(reading::evaluated_as(
+            records,
+            c.inputs,
+            c.gates,
+            c.outputs,
+            assignment,
+        )),
+        Word::Not(fault) => Outcome::Not(fault),
+    }
 }
 
 // Operation 8: size and depth through a reading.
@@ -200,78 +192,141 @@ fn report_reading(records: &[u8], c: Counts) -> Outcome {
     reported(reading::reported_as(records, c.inputs, c.gates, c.outputs))
 }
 
-// Answers an operation on a reading of these records with these counts.
-fn on_records(operation: u8, records: &[u8], counts: Counts) -> Outcome {
+// What stands before the table in a request: its used length or, of a reading, its counts.
+enum Lead {
+    Used(usize),
+    Counted(Counts),
+}
+
+// Answers an operation on a table of this used length, which is lent exactly as the request has it, to read or to change.
+fn on_table(operation: u8, table: &mut [u8], used: usize) -> Outcome {
     match operation {
-        7 => evaluate_reading(records, counts),
-        8 => report_reading(records, counts),
-        _ => Outcome::Unknown(operation),
+        1 => check(table, used),
+        2 => evaluate(table, used),
+        3 => report(table, used),
+        4 => step(table, used),
+        5 => script(table, used),
+        _ => translate(table, used),
     }
 }
 
-// Reads the counts and the records, with which each of these operations begins.
-fn on_reading(operation: u8, buffer: &mut [u8]) -> Outcome {
-    let Claim::Counted(counts) = input::read_counts() else {
-        return Outcome::Cut;
-    };
+// Answers an operation on a reading of these records with these counts.
+fn on_reading(operation: u8, records: &[u8], counts: Counts) -> Outcome {
+    match operation {
+        7 => evaluate_reading(records, counts),
+        _ => report_reading(records, counts),
+    }
+}
+
+fn on_lent(operation: u8, table: &mut [u8], lead: Lead) -> Outcome {
+    match lead {
+        Lead::Used(used) => on_table(operation, table, used),
+        Lead::Counted(counts) => on_reading(operation, table, counts),
+    }
+}
+
+// Reads the table, and answers.
+fn on_part(operation: u8, buffer: &mut [u8], lead: Lead) -> Outcome {
     match input::read_part(buffer) {
-        Part::Bytes(n) => on_records(operation, &buffer[..n], counts),
-        Part::Cut => Outcome::Cut,
-        Part::TooLong(n) => Outcome::TooLong(n),
+        Part::Bytes(n) => on_lent(operation, &mut buffer[..n], lead),
+        Part::Not(fault) => Outcome::Not(fault),
+    }
+}
+
+// Reads the used length, and answers.
+fn with_used(operation: u8, buffer: &mut [u8]) -> Outcome {
+    match input::read_number() {
+        Word::Number(used) => on_part(operation, buffer, Lead::Used(used as usize)),
+        Word::Not(fault) => Outcome::Not(fault),
+    }
+}
+
+// Reads the counts, and answers.
+fn with_counts(operation: u8, buffer: &mut [u8]) -> Outcome {
+    match input::read_counts() {
+        Claim::Counted(counts) => on_part(operation, buffer, Lead::Counted(counts)),
+        Claim::Not(fault) => Outcome::Not(fault),
+    }
+}
+
+// Answers a request that begins with this operation.
+fn on_operation(operation: u8, buffer: &mut [u8]) -> Outcome {
+    match operation {
+        1..=6 => with_used(operation, buffer),
+        7..=8 => with_counts(operation, buffer),
+        _ => Outcome::Unknown(operation),
     }
 }
 
 // Reads one request and answers it.
 fn answer(buffer: &mut [u8]) -> Outcome {
-    let Start::Operation(operation) = input::read_operation() else {
-        return Outcome::End;
-    };
-    match operation {
-        1..=6 => on_table(operation, buffer),
-        7..=8 => on_reading(operation, buffer),
-        _ => Outcome::Unknown(operation),
+    match input::read_operation() {
+        Start::Operation(operation) => on_operation(operation, buffer),
+        Start::End => Outcome::End,
+        Start::Not(fault) => Outcome::Not(fault),
     }
 }
 
-// Says what was wrong with a request, which is the program's end.
-fn complain(wrong: Line) -> bool {
-    wrong.complain();
-    false
-}
-
-// Answers one request, and then whether to go on.
-fn goes_on(buffer: &mut [u8; PART]) -> bool {
-    let line = Line::empty().word(b"majpipe: ");
-    match answer(buffer) {
-        Outcome::Answered => true,
-        Outcome::End => false,
-        Outcome::Cut => complain(line.word(b"the input ended inside a request")),
-        Outcome::Unknown(operation) => complain(
-            line.word(b"there is no operation ")
-                .number(operation as u64),
-        ),
-        Outcome::TooLong(n) => complain(
+// Says why a request cannot be answered.
+fn faulty(program: Program, fault: Fault) -> End {
+    let line = program.line();
+    match fault {
+        Fault::Cut => program.failed(line.word(b"the input ended inside a request")),
+        Fault::TooLong(n) => program.failed(
             line.word(b"a part of ")
                 .number(n as u64)
                 .word(b" bytes is longer than 65536, the most that is allowed"),
         ),
-        Outcome::Unwritten => complain(line.word(b"a reply could not be written")),
+        Fault::Unread(error) => program.unread(error),
+    }
+}
+
+// What follows a request: the next one, or the program's end.
+enum Next {
+    On,
+    Over(End),
+}
+
+// Answers one request.
+fn turn(program: Program, buffer: &mut [u8; PART]) -> Next {
+    match answer(buffer) {
+        Outcome::Answered => Next::On,
+        Outcome::End => Next::Over(End::Accepted),
+        Outcome::Unknown(operation) => Next::Over(program.failed(
+            program
+                .line()
+                .word(b"there is no operation ")
+                .number(operation as u64),
+        )),
+        Outcome::Unwritten => Next::Over(program.written(false, End::Accepted)),
+        Outcome::Not(fault) => Next::Over(faulty(program, fault)),
     }
 }
 
 // A proved loop has to end, and nothing says that the input does: it counts its turns down from a number that no run uses up.
-fn serve() {
+fn serve(program: Program) -> End {
     let mut buffer = io::large_buffer();
     let mut turns = u64::MAX;
-    while turns > 0 && goes_on(&mut buffer) {
+    while turns > 0 {
+        match turn(program, &mut buffer) {
+            Next::On => {}
+            Next::Over(end) => return end,
+        }
         turns -= 1;
     }
+    End::Failed
 }
 
 fn main() {
-    if text::no_arguments(
-        b"majpipe: it takes no argument; call it as: majpipe < REQUESTS > REPLIES\n",
+    let program = Program::begun(b"majpipe");
+    match program.called(
+        0,
+        b"",
+        b"it takes no argument",
+        b"majpipe < REQUESTS > REPLIES",
+        b"Answers requests until its input ends: the library for every other language (docs/SPEC.md, 9.1).\nArguments: none.\nReads requests, each a byte, the operation, and its parts; writes one reply a request, all numbers.\n",
     ) {
-        serve();
+        Called::Rightly => program.end(serve(program)),
+        Called::Done(end) => program.end(end),
     }
 }

@@ -1,7 +1,6 @@
 // A reply: its numbers are gathered and written at once.
 ghost use mathlib.Core.Path.{_≡_};
-ghost use mathlib.Core.List.{_++_};
-ghost use Rattle.text.specs.Shown.{shown, cut, fourBytes};
+ghost use Rattle.text.specs.Shown.{withWord, fourBytes};
 use libc::STDOUT_FILENO;
 use tables::Refusal;
 use text::Line;
@@ -35,7 +34,7 @@ impl Reply {
 
     // The reply with a number after it, low byte first. No number of a reply has more than 32 bits: buffers have at most 65,536 bytes.
     pub fn number(self, n: usize) -> Reply
-        ensures { λ r. ⌜ shown (r .line) ≡ cut (shown (self .line) ++ fourBytes n) ⌝ }
+        ensures { λ r. ⌜ r .line ≡ withWord (self .line) (fourBytes n) ⌝ }
     {
         let line = self.line;
         Reply {
@@ -46,6 +45,6 @@ impl Reply {
     // Writes the reply, and answers whether all of it was written.
     pub fn write(self) -> bool {
         let line = self.line;
-        line.write(STDOUT_FILENO)
+        program::write_line(STDOUT_FILENO, line)
     }
 }

@@ -1,7 +1,12 @@
 // Runs the script in the file that its argument names on the table on standard input: writes the table as the script left it to
 // standard output, and what the script replied to standard error.
-use libc::STDIN_FILENO;
+use libc::STDERR_FILENO;
 use libc::STDOUT_FILENO;
+use program::Called;
+use program::End;
+use program::Got;
+use program::Input;
+use program::Program;
 use rewriting::Ending;
 use rewriting::Progress;
 use tables::refusal_number;
@@ -12,15 +17,6 @@ use text::Line;
 const MOST_BYTES: usize = 262144;
 
 const ROOM: usize = MOST_BYTES + 1;
-
-// Says what is wrong, and how to call the program.
-fn complain(wrong: &[u8]) {
-    Line::empty()
-        .word(b"majscript: ")
-        .word(wrong)
-        .word(b"; call it as: majscript SCRIPT < TABLE > TABLE")
-        .complain();
-}
 
 // The line with how a script ended after its text.
 fn ended(line: Line, ending: Ending) -> Line {
@@ -40,69 +36,104 @@ fn said(progress: Progress) -> Line {
         .number(progress.used as u64)
 }
 
+// How the program ends whose script ended so.
+fn end_of(ending: Ending) -> End {
+    match ending {
+        Ending::Finished => End::Accepted,
+        Ending::Stopped(_) => End::Refused,
+    }
+}
+
 // Writes the first bytes of a buffer, or all where it has fewer.
 fn write_first(bytes: &[u8], count: usize) -> bool {
     if bytes.len() < count {
-        return io::write_all(STDOUT_FILENO, bytes);
+        return program::write_whole(STDOUT_FILENO, bytes);
     }
-    io::write_all(STDOUT_FILENO, &bytes[..count])
+    program::write_whole(STDOUT_FILENO, &bytes[..count])
 }
 
 // Runs a script on the first used bytes, which are the table.
-fn answer(table: &mut [u8], used: usize, script: &[u8]) {
+fn answer(
+    program: Program,
+    table: &mut [u8; program::MOST_BYTES],
+    used: usize,
+    script: &[u8],
+) -> End {
     let progress = rewriting::script(table, used, script);
     if !write_first(table, progress.used) {
-        complain(b"the table could not be written");
-        return;
+        return program.written(false, End::Accepted);
     }
-    said(progress).complain();
+    let ending = progress.ending;
+    program.put(STDERR_FILENO, said(progress), end_of(ending))
 }
 
-// Reads the table, and runs the script on it. A byte past the most that a table has shows that the input is longer.
-fn on_table(script: &[u8]) {
-    let mut past = [0u8; 1];
-    let mut table = [0u8; text::MOST_BYTES];
-    let used = io::read_full(STDIN_FILENO, &mut table);
-    if 0 < libc::read(STDIN_FILENO, &mut past) {
-        Line::empty().word(b"too long").complain();
-        return;
+// Reads the table, and runs the script on it.
+fn on_table(program: Program, script: &[u8]) -> End {
+    let mut table = [0u8; program::MOST_BYTES];
+    match program.read_table(&mut table, STDERR_FILENO) {
+        Input::Table(used) => answer(program, &mut table, used, script),
+        Input::None(end) => end,
     }
-    answer(&mut table, used, script);
 }
 
-// Reads the script whole. Its end and a read that fails look alike, so one read more, after the last byte, tells them apart.
-fn on_file(fd: i32) {
+// Reads the script whole.
+fn on_file(program: Program, fd: i32, path: &[u8]) -> End {
     let mut buffer = [0u8; ROOM];
-    let mut past = [0u8; 1];
-    let n = io::read_full(fd, &mut buffer);
-    if MOST_BYTES < n {
-        complain(b"the script is longer than 262144 bytes");
-        return;
+    match program::read_whole(fd, &mut buffer) {
+        Got::Bytes(n) => {
+            if MOST_BYTES < n {
+                return misused(program, b"the script is longer than 262144 bytes");
+            }
+            on_table(program, &buffer[..n])
+        }
+        Got::Failed(error) => unread(program, path, error),
     }
-    if libc::read(fd, &mut past) != 0 {
-        complain(b"the script file cannot be read");
-        return;
+}
+
+// Says what is wrong with the call, and how the program is called.
+fn misused(program: Program, wrong: &[u8]) -> End {
+    program.misused(wrong, b"majscript SCRIPT < TABLE > NEW")
+}
+
+// Says why the script could not be read, and how the program is called.
+fn unread(program: Program, path: &[u8], error: i32) -> End {
+    program.unread_file(
+        b"the script",
+        path,
+        error,
+        b"majscript SCRIPT < TABLE > NEW",
+    )
+}
+
+// Opens the script. A file that was opened under one of the first three numbers stands where a standard one should.
+fn run(program: Program) -> End {
+    let mut word = io::large_buffer();
+    let len = program.argument(&mut word);
+    let path = &word[..len];
+    let fd = os::open_read(path);
+    if fd < 0 {
+        return unread(program, path, os::errno());
     }
-    on_table(&buffer[..n]);
+    if fd < 3 {
+        return program.failed(
+            program.line().word(b"standard input, standard output or standard error is closed"),
+        );
+    }
+    let end = on_file(program, fd, path);
+    libc::close(fd);
+    end
 }
 
 fn main() {
-    let count = os::arg_count();
-    if count < 2 {
-        complain(b"the script's file is missing");
-        return;
+    let program = Program::begun(b"majscript");
+    match program.called(
+        1,
+        b"the script's file is missing",
+        b"it takes one argument, the script's file",
+        b"majscript SCRIPT < TABLE > NEW",
+        b"Runs a script of rewriting steps on the majority table on standard input, of at most 8704 bytes.\nArgument: the path of the script, of at most 262144 bytes.\nWrites the bytes of the table as the script left it; and on standard error `taken T length L`, or\n`taken T refused N at R length L`, or `too long`. NEW must be another file than TABLE.\n",
+    ) {
+        Called::Rightly => program.end(run(program)),
+        Called::Done(end) => program.end(end),
     }
-    if 2 < count {
-        complain(b"it takes one argument, the script's file");
-        return;
-    }
-    let mut path = io::large_buffer();
-    let len = os::arg(1, &mut path);
-    let fd = os::open_read(&path[..len]);
-    if fd < 0 {
-        complain(b"the script file cannot be read");
-        return;
-    }
-    on_file(fd);
-    libc::close(fd);
 }

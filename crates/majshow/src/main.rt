@@ -1,7 +1,11 @@
 // Shows the table on standard input in words, one line a record, or prints the refusal that it meets.
+use libc::STDOUT_FILENO;
 use majority::Record;
+use program::Called;
+use program::End;
+use program::Input;
+use program::Program;
 use tables::Checked;
-use text::Input;
 use text::Line;
 
 // The line with a node after its text: x and its number for an input, g and its number for a gate.
@@ -39,31 +43,46 @@ fn shown(r: Record, number: usize, inputs: usize) -> Line {
     line
 }
 
-// Shows each record, the first being node 1.
-fn show(table: &[u8; text::ROOM], records: usize, inputs: usize) {
+// Shows each record, the first being node 1, until a line cannot be written.
+fn show(program: Program, table: &[u8; program::MOST_BYTES], records: usize, inputs: usize) -> End {
     let mut i: usize = 0;
     while i < records {
         let r = tables::record_at(table, i);
         i += 1;
-        shown(r, i, inputs).print();
+        let line = shown(r, i, inputs).word(b"\n");
+        if !program::write_line(STDOUT_FILENO, line) {
+            return program.written(false, End::Accepted);
+        }
     }
+    End::Accepted
 }
 
 // Shows the first used bytes, which are the table.
-fn answer(table: &[u8; text::ROOM], used: usize) {
+fn answer(program: Program, table: &[u8; program::MOST_BYTES], used: usize) -> End {
     match tables::check(table, used) {
-        Checked::Accepted(c) => show(table, used / 8, c.inputs),
-        Checked::Refused(r) => text::print_refusal(r),
+        Checked::Accepted(c) => show(program, table, used / 8, c.inputs),
+        Checked::Refused(r) => program.refused(STDOUT_FILENO, r),
+    }
+}
+
+fn run(program: Program) -> End {
+    let mut table = [0u8; program::MOST_BYTES];
+    match program.read_table(&mut table, STDOUT_FILENO) {
+        Input::Table(used) => answer(program, &table, used),
+        Input::None(end) => end,
     }
 }
 
 fn main() {
-    if !text::no_arguments(b"majshow: it takes no argument; call it as: majshow < TABLE\n") {
-        return;
-    }
-    let mut table = [0u8; text::ROOM];
-    match text::read_table(&mut table) {
-        Input::Table(used) => answer(&table, used),
-        Input::TooLong => text::print_too_long(),
+    let program = Program::begun(b"majshow");
+    match program.called(
+        0,
+        b"",
+        b"it takes no argument",
+        b"majshow < TABLE",
+        b"Shows the majority table on standard input, of at most 8704 bytes, in words.\nArguments: none.\nWrites a line a record: `x1` an input, `g4 = M(x1, !x2, 1)` a gate, the majority of three edges, `out !g6` an output;\nor `refused N at R`, or `too long`.\n",
+    ) {
+        Called::Rightly => program.end(run(program)),
+        Called::Done(end) => program.end(end),
     }
 }

@@ -1,3 +1,3 @@
 mod Appending
 mod Numbering
-mod Spelling
+mod Digits

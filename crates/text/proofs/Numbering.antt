@@ -1,28 +1,35 @@
--- `Numbered` leaves one text: a number has one count of decimal digits.
+-- A number has one count of decimal digits, and `places` finds it.
 use Prim.Native.Nat.{ℕ, _-_, _^_, _≤_, _<_}
-use mathlib.Core.Path.{_≡_, _∙_, sym, ap}
-use mathlib.Core.List.{List, _++_}
+use mathlib.Core.Path.{_≡_, sym, ap}
 use native.Mathlib.Nat.{pow-le-pow-right}
 use native.Mathlib.Decide.{decLt}
 use native.Mathlib.Omega.{arith}
-use lib.Dec.{lit<}
+use borrow.Author.Tests.{lt-ltb, le-ltb}
+use lib.Dec.{ltb, lit<}
 use Rattle.io.specs.Digits.{digits, Fewest}
-use Rattle.text.specs.Shown.{cut, Numbered}
+use Rattle.majority.proofs.Seek.{found-at}
+use Rattle.text.specs.Shown.{places, decimal}
 
-no-fewer : (n k m : ℕ) → Fewest 10 1 n k → Fewest 10 1 n m → k < m → ⊥
-no-fewer n k m f g h =
-    let p : 10 ^ k ≤ 10 ^ (m - 1) = pow-le-pow-right (lit< tt) (omega arith) in
-    let q : 10 ^ (m - 1) ≤ n = g .2 (omega arith) in
+-- fewer digits hold no number that needs k
+too-few : (n k m : ℕ) → Fewest 10 1 n k → 1 ≤ m → m < k → 10 ^ m ≤ n
+too-few n k m f a h =
+    let p : 10 ^ m ≤ 10 ^ (k - 1) = pow-le-pow-right (lit< tt) (omega arith) in
+    let q : 10 ^ (k - 1) ≤ n = f .2 (omega arith) in
     omega arith
 
-same-places : (n k m : ℕ) → Fewest 10 1 n k → Fewest 10 1 n m → k ≡ m
-same-places n k m f g = go (decLt k m) (decLt m k)
+-- a number of 64 bits needs no more than 20
+at-most-20 : (n k : ℕ) → n < 18446744073709551616 → Fewest 10 1 n k → k ≤ 20
+at-most-20 n k small f = go (decLt 20 k)
   where
-    go : Dec (k < m) → Dec (m < k) → k ≡ m
-    go (yes h) _ = absurd (no-fewer n k m f g h)
-    go (no _) (yes h) = absurd (no-fewer n m k g f h)
-    go (no a) (no b) = omega arith
+    go : Dec (20 < k) → k ≤ 20
+    go (yes h) =
+        let p : 10 ^ 20 ≤ n = too-few n k 20 f (omega arith) h in
+        absurd (omega arith)
+    go (no h) = omega arith
 
-pub one-text : (old : List ℕ) (n : ℕ) (a b : List ℕ) → Numbered old n a → Numbered old n b → a ≡ b
-one-text old n a b r s =
-    r .whole ∙ ap (λ (k : ℕ). cut (old ++ digits 10 k n)) (same-places n (r .places) (s .places) (r .fewest) (s .fewest)) ∙ sym (s .whole)
+pub in-decimal : (n k : ℕ) → n < 18446744073709551616 → Fewest 10 1 n k → digits 10 k n ≡ decimal n
+unfolding decimal places
+in-decimal n k small f =
+    let few : k ≤ 20 = at-most-20 n k small f in
+    ap (λ (j : ℕ). digits 10 j n)
+    (sym (found-at (λ (j : ℕ). ltb n (10 ^ j)) 20 1 k (f .0) (omega arith) (λ j a b. le-ltb _ _ (too-few n k j f a b)) (lt-ltb _ _ (f .1))))

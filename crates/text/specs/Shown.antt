@@ -1,25 +1,52 @@
 -- What a line shows (SPEC 9).
-use Prim.Native.Nat.{ℕ, _/_, _%_}
-use mathlib.Core.Path.{_≡_}
+use Prim.Native.Nat.{ℕ, _+_, _/_, _%_, _^_, min, max}
 use mathlib.Core.List.{List, [], _∷_, _++_}
-use lib.ListN.{take}
-use Rattle.io.specs.Digits.{digits, Fewest}
+use lib.ListN.{length, take, drop, replicate}
+use lib.Dec.{ltb}
+use Rattle.io.specs.Digits.{digits}
+use Rattle.majority.specs.Seek.{firstFrom}
 use Rattle.text.specs.declared.Line.{Line}
 
 -- a line's text: its first len bytes
 abbrev pub shown : Line → List ℕ
 shown l = take (l .len) (l .bytes)
 
--- as much of a text as a line holds: 128 bytes
-abbrev pub cut : List ℕ → List ℕ
-cut text = take 128 text
+-- these bytes, of which the first len are the text
+abbrev pub lineOf : List ℕ → ℕ → Line
+lineOf bytes len = record { bytes = bytes; len = len }
+
+-- a line with no text
+unfoldable pub emptyLine : Line
+emptyLine = lineOf (replicate 128 0) 0
+
+-- room with a word behind its first len bytes, as far as it goes; what stands behind that is as it was
+unfoldable pub appended : List ℕ → ℕ → List ℕ → Line
+appended room len word =
+    lineOf (take (length room) (take len room ++ word) ++ drop (len + length word) room) (max len (min (length room) (len + length word)))
+
+-- the line with a word after its text, cut where the line is full
+abbrev pub withWord : Line → List ℕ → Line
+withWord l word = appended (l .bytes) (l .len) word
+
+-- how many decimal digits a number below 2^64 takes: the first k from 1 up with n < 10^k
+unfoldable pub places : ℕ → ℕ
+places n = firstFrom (λ k. ltb n (10 ^ k)) 1 20
+
+-- a number in decimal, in as many digits as it takes
+unfoldable pub decimal : ℕ → List ℕ
+decimal n = digits 10 (places n) n
+
+-- `refused ` and ` at ` in ASCII
+abbrev pub refusedWord : List ℕ
+refusedWord = 114 ∷ 101 ∷ 102 ∷ 117 ∷ 115 ∷ 101 ∷ 100 ∷ 32 ∷ []
+
+abbrev pub atWord : List ℕ
+atWord = 32 ∷ 97 ∷ 116 ∷ 32 ∷ []
+
+-- the line with a refusal after its text: its number and the record that it carries
+unfoldable pub withRefusal : Line → ℕ → ℕ → Line
+withRefusal l number at = withWord (withWord (withWord (withWord l refusedWord) (decimal number)) atWord) (decimal at)
 
 -- the low 32 bits of a number, low byte first
 abbrev pub fourBytes : ℕ → List ℕ
 fourBytes n = n % 256 ∷ n / 256 % 256 ∷ n / 65536 % 256 ∷ n / 16777216 % 256 ∷ []
-
--- new is the text old with the number n after it: its decimal digits, as many as it takes and no more
-pub record Numbered (old : List ℕ) (n : ℕ) (new : List ℕ) : Type 0 where
-  pub places : ℕ
-  pub fewest : Fewest 10 1 n places
-  pub whole : new ≡ cut (old ++ digits 10 places n)

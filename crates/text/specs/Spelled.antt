@@ -5,8 +5,8 @@ use mathlib.Core.List.{List, [], _∷_}
 use lib.ListN.{length}
 use lib.Dec.{leb, ltb, eqb}
 use Rattle.majority.specs.If.{if_then_else_}
-use Rattle.text.specs.declared.Decimal.{Decimal}
-use Rattle.text.specs.declared.Decimal.the-variants.{Number, Other}
+use Rattle.text.specs.declared.spelling.Decimal.{Decimal}
+use Rattle.text.specs.declared.spelling.Decimal.the-variants.{Number, Other}
 
 -- the ASCII codes of the digits 0 to 9
 abbrev pub isDigit : ℕ → Bool

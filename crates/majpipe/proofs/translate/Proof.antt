@@ -26,20 +26,14 @@ slice-aggregate-translate-to c = sym (length-take-le _ _ (array-borrow-prefix-bu
 translate-to-requires : tie.Need-translate-to-requires
 translate-to-requires c κs = search needs
 
-enum-told : tie.Need-enum-told
-enum-told c = search needs
-
-enum-known-n-2 : tie.Need-enum-known-n-2
-enum-known-n-2 c = search needs
+enum-known-fault : tie.Need-enum-known-fault
+enum-known-fault c = search needs
 
 returns : tie.Need-returns
 returns c = search needs
 
 returns-2 : tie.Need-returns-2
 returns-2 c = search needs
-
-returns-3 : tie.Need-returns-3
-returns-3 c = search needs
 
 pub translate-spec : {M : Type 1} → statement M
 translate-spec =
@@ -52,8 +46,6 @@ translate-spec =
     array-borrow-prefix-buffer
     slice-aggregate-translate-to
     translate-to-requires
-    enum-told
-    enum-known-n-2
+    enum-known-fault
     returns
-    returns-2
-    returns-3)
+    returns-2)

@@ -1,10 +1,10 @@
 -- `rm3list::answer` is safe and ends: an accepted table's RM3 table has its inputs and outputs, and fits the buffer. Assumes nothing.
 use mathlib.Core.Path.{sym, ap, _∙_}
 use native.Mathlib.Omega.{arith}
-use borrow.Author.Needs.{needs}
 use Rattle.tables.specs.Said.{saidCheck}
 use Rattle.rm3.specs.Said.{saidTranslate}
 use Rattle.rm3.proofs.Replies.{reply-fits, reply-counts}
+use borrow.Author.Needs.{needs}
 use Rattle.rm3list.proofs.answer.Statement.{statement}
 use Rattle.rm3list.proofs.answer.Tie as tie
 
@@ -23,23 +23,11 @@ translate-requires c κs = search needs
 enum-known-length : tie.Need-enum-known-length
 enum-known-length c = search needs
 
-enum-told : tie.Need-enum-told
-enum-told c = search needs
-
-returns : tie.Need-returns
-returns c = search needs
-
 rm3-depth-requires : tie.Need-rm3-depth-requires
 rm3-depth-requires c κs = search needs
 
 enum-known-depth : tie.Need-enum-known-depth
 enum-known-depth c = search needs
-
-enum-told-2 : tie.Need-enum-told-2
-enum-told-2 c = search needs
-
-returns-2 : tie.Need-returns-2
-returns-2 c = search needs
 
 add-head : tie.Need-add-head
 add-head c = let l = c .before .before .before .before .before .before .before in
@@ -65,11 +53,8 @@ sub-head c = let l = c .before .before .before .before .before .before .before i
 head-requires : tie.Need-head-requires
 head-requires c κs = search needs
 
-print-requires : tie.Need-print-requires
-print-requires c κs = search needs
-
-list-requires : tie.Need-list-requires
-list-requires c κs = let l = c .before .before .before .before .before .before .before .before .before .before in
+listed-requires : tie.Need-listed-requires
+listed-requires c κs = let l = c .before .before .before .before .before .before .before .before .before in
     let t = l .before .before .before in
     let fits = reply-fits _ _ _ _ (sym (ap saidTranslate (l .length .given .1)) ∙ t .translate .ensures .0) in
     omega arith
@@ -77,8 +62,26 @@ list-requires c κs = let l = c .before .before .before .before .before .before 
 enum-known-r : tie.Need-enum-known-r
 enum-known-r c = search needs
 
-print-refusal-requires : tie.Need-print-refusal-requires
-print-refusal-requires c κs = search needs
+refused-requires : tie.Need-refused-requires
+refused-requires c κs = search needs
+
+enum-known-r-2 : tie.Need-enum-known-r-2
+enum-known-r-2 c = search needs
+
+refused-requires-2 : tie.Need-refused-requires-2
+refused-requires-2 c κs = search needs
+
+enum-known-r-3 : tie.Need-enum-known-r-3
+enum-known-r-3 c = search needs
+
+refused-requires-3 : tie.Need-refused-requires-3
+refused-requires-3 c κs = search needs
+
+returns : tie.Need-returns
+returns c = search needs
+
+returns-2 : tie.Need-returns-2
+returns-2 c = search needs
 
 returns-3 : tie.Need-returns-3
 returns-3 c = search needs
@@ -95,18 +98,19 @@ answer-spec =
     slice-aggregate-translate
     translate-requires
     enum-known-length
-    enum-told
-    returns
     rm3-depth-requires
     enum-known-depth
-    enum-told-2
-    returns-2
     add-head
     sub-head
     head-requires
-    print-requires
-    list-requires
+    listed-requires
     enum-known-r
-    print-refusal-requires
+    refused-requires
+    enum-known-r-2
+    refused-requires-2
+    enum-known-r-3
+    refused-requires-3
+    returns
+    returns-2
     returns-3
     returns-4)

@@ -1,10 +1,10 @@
 -- `rm3table::answer` is safe and ends: the length that `translate` replies fits the buffer. Assumes nothing.
 use mathlib.Core.Path.{sym, ap, _∙_}
 use native.Mathlib.Omega.{arith}
-use borrow.Author.Needs.{needs}
 use lib.Seq.{length-take-le}
 use Rattle.rm3.specs.Said.{saidTranslate}
 use Rattle.rm3.proofs.Replies.{reply-fits}
+use borrow.Author.Needs.{needs}
 use Rattle.rm3table.proofs.answer.Statement.{statement}
 use Rattle.rm3table.proofs.answer.Tie as tie
 
@@ -22,29 +22,20 @@ array-share-prefix-out c = let l = c .before in
     let fits = reply-fits _ _ _ _ (sym (ap saidTranslate (l .length .given .1)) ∙ l .before .before .before .translate .ensures .0) in
     omega (arith, l .before .before .out2 .given)
 
-slice-aggregate-write-all : tie.Need-slice-aggregate-write-all
-slice-aggregate-write-all c = sym (length-take-le _ _ (array-share-prefix-out (c .before)))
+slice-aggregate-write-whole : tie.Need-slice-aggregate-write-whole
+slice-aggregate-write-whole c = sym (length-take-le _ _ (array-share-prefix-out (c .before)))
 
-write-all-requires : tie.Need-write-all-requires
-write-all-requires c κs = search needs
+write-whole-requires : tie.Need-write-whole-requires
+write-whole-requires c κs = search needs
+
+written-requires : tie.Need-written-requires
+written-requires c κs = search needs
 
 enum-known-r : tie.Need-enum-known-r
 enum-known-r c = search needs
 
-empty-requires : tie.Need-empty-requires
-empty-requires c κs = search needs
-
-refusal-number-requires : tie.Need-refusal-number-requires
-refusal-number-requires c κs = search needs
-
-refusal-record-requires : tie.Need-refusal-record-requires
-refusal-record-requires c κs = search needs
-
 refused-requires : tie.Need-refused-requires
 refused-requires c κs = search needs
-
-complain-requires : tie.Need-complain-requires
-complain-requires c κs = search needs
 
 returns : tie.Need-returns
 returns c = search needs
@@ -60,13 +51,10 @@ answer-spec =
     translate-requires
     enum-known-length
     array-share-prefix-out
-    slice-aggregate-write-all
-    write-all-requires
+    slice-aggregate-write-whole
+    write-whole-requires
+    written-requires
     enum-known-r
-    empty-requires
-    refusal-number-requires
-    refusal-record-requires
     refused-requires
-    complain-requires
     returns
     returns-2)

@@ -1,17 +1,16 @@
--- `text::put` meets its contract. The loop's invariant: what the room shows, with the rest of the word behind it, cut, is what is to be shown.
+-- `text::put` meets its contract. The loop's invariant: what is left of the word, put behind the bytes so far, makes what is to be made.
 -- The measure is what is left of the word. Assumes nothing.
 use Prim.Native.Nat.{_≤_, _-_}
-use mathlib.Core.Path.{_≡_, _∙_, refl, sym, ap}
-use mathlib.Core.List.{_++_}
-use lib.ListN.{length, take, drop, length-set}
-use Rattle.text.proofs.Appending.{one-more, at-end, full}
+use mathlib.Core.Path.{_≡_, _∙_, refl, sym}
+use lib.ListN.{length, length-set}
+use Rattle.text.specs.Shown.{appended}
+use Rattle.text.proofs.Appending.{leftToPut, one-more, at-end, full}
 use borrow.Author.Needs.{needs}
 use Rattle.text.proofs.put.Statement.{statement}
 use Rattle.text.proofs.put.Tie as tie
 
 abbrev Inv-loop : tie.InvT-loop
-Inv-loop room₀ len word at₀ i₀ room at i =
-    (length room ≡ length room₀) × (i ≤ length word) × (take (length room₀) (take at room ++ drop i word) ≡ take (length room₀) (take len room₀ ++ word))
+Inv-loop room₀ len word at₀ i₀ room at i = (length room ≡ length room₀) × (i ≤ length word) × (leftToPut room at word i ≡ appended room₀ len word)
 
 abbrev μ-loop : tie.MeasureT-loop
 μ-loop room₀ len word at₀ i₀ room at i = length word - i
@@ -40,7 +39,7 @@ loop-again c =
     let args = c .before .before .before .before .args in (
       simp length-set (turn .inv .0),
       search needs,
-      ap (take (length (args .room .now))) (one-more (turn .room) (args .word .now) (turn .at) (turn .i) (search needs) (search needs)) ∙ turn .inv .2,
+      one-more (turn .room) (args .word .now) (turn .at) (turn .i) (search needs) (search needs) ∙ turn .inv .2,
     )
 
 same-length : tie.Need-same-length Inv-loop μ-loop
@@ -50,7 +49,7 @@ returns : tie.Need-returns Inv-loop μ-loop
 returns c =
     let last = c .before .loop in
     let args = c .before .before .args in
-    sym (rw (← last .inv .2, ← last .inv .0) (at-end (last .room) (args .word .now) (last .at) (last .i) (c .loop-test .left)))
+    sym (at-end (last .room) (args .word .now) (last .at) (last .i) (c .loop-test .left)) ∙ last .inv .2
 
 same-length-2 : tie.Need-same-length-2 Inv-loop μ-loop
 same-length-2 c = c .before .before .loop .inv .0
@@ -59,7 +58,7 @@ returns-2 : tie.Need-returns-2 Inv-loop μ-loop
 returns-2 c =
     let last = c .before .before .loop in
     let args = c .before .before .before .args in
-    sym (rw (← last .inv .2, ← last .inv .0) (full (last .room) (args .word .now) (last .at) (last .i) (c .if1 .taken)))
+    sym (full (last .room) (args .word .now) (last .at) (last .i) (c .if1 .taken)) ∙ last .inv .2
 
 pub put-spec : {M : Type 1} → statement M
 put-spec =

@@ -1,8 +1,9 @@
 -- `text::Line::number` meets its contract: `io::decimal` gives the digits, and `word` puts them behind the text. Assumes nothing.
 use mathlib.Core.Path.{_∙_, ap}
-use mathlib.Core.List.{List, _++_}
+use mathlib.Core.List.{List}
 use Prim.Native.Nat.{ℕ}
-use Rattle.text.specs.Shown.{shown, cut}
+use Rattle.text.specs.Shown.{withWord}
+use Rattle.text.proofs.Numbering.{in-decimal}
 use borrow.Author.Needs.{needs}
 use Rattle.text.proofs.Line.number.Statement.{statement}
 use Rattle.text.proofs.Line.number.Tie as tie
@@ -22,12 +23,8 @@ word-requires c κs = search needs
 returns : tie.Need-returns
 returns c =
     let decimal = c .before .before .decimal in
-    let old = shown (c .before .before .before .before .args .self) in
-    record {
-      places = decimal .result;
-      fewest = decimal .ensures .1 .0;
-      whole = c .word .ensures ∙ ap (λ (text : List ℕ). cut (old ++ text)) (decimal .ensures .1 .1);
-    }
+    let args = c .before .before .before .before .args in
+    c .word .ensures ∙ ap (withWord (args .self)) (decimal .ensures .1 .1 ∙ in-decimal (args .n) (decimal .result) (search needs) (decimal .ensures .1 .0))
 
 pub number-spec : {M : Type 1} → statement M
 number-spec = tie.close (tie.spec decimal-requires array-share-prefix-digits slice-aggregate-word word-requires returns)

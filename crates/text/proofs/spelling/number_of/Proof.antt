@@ -6,9 +6,9 @@ use lib.ListN.{length, drop}
 use borrow.Author.Needs.{needs}
 use borrow.Author.Tests.{eq-eqb, ne-eqb}
 use Rattle.text.specs.Spelled.{spelled, spelledAfter}
-use Rattle.text.proofs.Spelling.{at-end, digit, below, above, over}
-use Rattle.text.proofs.number_of.Statement.{statement}
-use Rattle.text.proofs.number_of.Tie as tie
+use Rattle.text.proofs.Digits.{at-end, digit, below, above, over}
+use Rattle.text.proofs.spelling.number_of.Statement.{statement}
+use Rattle.text.proofs.spelling.number_of.Tie as tie
 
 abbrev Inv-loop : tie.InvT-loop
 Inv-loop text value₀ i₀ value i = (i ≤ length text) × (value < 2 ^ 32) × (spelled text ≡ spelledAfter value (drop i text))
