@@ -114,10 +114,11 @@ fn run(program: Program) -> End {
     if fd < 0 {
         return unread(program, path, os::errno());
     }
+    if fd == 0 {
+        return program.unread(libc::EBADF);
+    }
     if fd < 3 {
-        return program.failed(
-            program.line().word(b"standard input, standard output or standard error is closed"),
-        );
+        return program.written(false, End::Accepted);
     }
     let end = on_file(program, fd, path);
     libc::close(fd);
