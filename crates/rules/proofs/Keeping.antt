@@ -1,0 +1,64 @@
+-- `Kept` from what the nodes are worth, and what a node is worth where a table's record is another's with other edges.
+use Prim.Native.Nat.{ℕ, suc, _+_, _≤_, _<_}
+use mathlib.Core.Path.{_≡_, refl, sym, ap, _∙_}
+use mathlib.Core.List.{List}
+use native.Mathlib.Omega.{arith}
+use native.Mathlib.Decide.{decLt}
+use Rattle.majority.specs.Edge.{nodeOf}
+use Rattle.majority.specs.Table.{recordAt, WellFormed}
+use Rattle.majority.specs.Node.{Meaning, edgeWorth, worth}
+use Rattle.majority.specs.Value.{value}
+use Rattle.majority.specs.Level.{level, depth}
+use Rattle.majority.specs.Edit.{edges}
+use Rattle.rules.specs.Kept.{Kept}
+use Rattle.majority.specs.declared.Record.{Record}
+use Rattle.majority.proofs.Nodes.{Respects, equals, record-related, edge-agrees, node-induction, node-zero}
+use Rattle.majority.proofs.Formed.{formed-eq, output-eq, not-input, reads-lower}
+use Rattle.majority.proofs.Levels.{highest-at-most}
+
+-- the outputs' records keep their values, and no gate stands above the old depth by more than δ
+pub kept-by-nodes : {δ n m m′ o : ℕ} {rs rs′ : List Record} → WellFormed n m o rs → WellFormed n m′ o rs′
+    → ((a j : ℕ) → j < o → value a rs′ (suc (n + m′ + j)) ≡ value a rs (suc (n + m + j)))
+    → ((k : ℕ) → n < k → k ≤ n + m′ → level rs′ k ≤ depth n m rs + δ)
+    → Kept δ n m m′ o rs rs′
+unfolding depth
+kept-by-nodes {δ} {n} {m} {m′} {rs′ = rs′} old new values levels = record {
+  formed = new;
+  outputs = λ a j h. output-eq new a j h ∙ values a j h ∙ sym (output-eq old a j h);
+  deep = highest-at-most (level rs′) m′ (n + 1) _ (λ k p q. levels k (omega arith) (omega arith));
+}
+
+-- P of each of a record's three edges
+abbrev pub Each : (ℕ → Type 0) → Record → Type 0
+Each P r = P (r .e1) × P (r .e2) × P (r .e3)
+
+module _ {n m m′ o : ℕ} {rs rs′ : List Record} (old : WellFormed n m o rs) (new : WellFormed n m′ o rs′) {A : Type 0} (𝓜 : Meaning A) where
+  -- record j′ of the new table is record j of the old, but that f changed its edges
+  pub counterpart : (Q : A → A → Type 0) → Respects 𝓜 Q → (f : ℕ → ℕ) (j j′ : ℕ) → j < n + m + o → j′ < n + m′ + o
+      → recordAt rs′ j′ ≡ edges f (recordAt rs j) → (j < n → j ≡ j′)
+      → Each (λ x. Q (edgeWorth 𝓜 (worth 𝓜 rs) x) (edgeWorth 𝓜 (worth 𝓜 rs′) (f x))) (recordAt rs j)
+      → Q (worth 𝓜 rs (suc j)) (worth 𝓜 rs′ (suc j′))
+  counterpart Q 𝓠 f j j′ h h′ same inputs q =
+      rw (formed-eq old 𝓜 j h, formed-eq new 𝓜 j′ h′, same)
+      (record-related 𝓜 Q 𝓠 _ _ (suc j) (suc j′) (recordAt rs j) (edges f (recordAt rs j)) refl (λ e. ap suc (number (decLt j n) e)) (q .0) (q .1) (q .2))
+    where
+      number : Dec (j < n) → recordAt rs j .kind ≡ 1 → j ≡ j′
+      number (yes p) e = inputs p
+      number (no p) e = absurd (not-input old j (omega arith) h e)
+
+  -- where f serves every edge to a lower node
+  pub counterpart-lower : (Q : A → A → Type 0) → Respects 𝓜 Q → (f : ℕ → ℕ) (j j′ : ℕ) → j < n + m + o → j′ < n + m′ + o
+      → recordAt rs′ j′ ≡ edges f (recordAt rs j) → (j < n → j ≡ j′)
+      → ((x : ℕ) → nodeOf x ≤ j → Q (edgeWorth 𝓜 (worth 𝓜 rs) x) (edgeWorth 𝓜 (worth 𝓜 rs′) (f x)))
+      → Q (worth 𝓜 rs (suc j)) (worth 𝓜 rs′ (suc j′))
+  counterpart-lower Q 𝓠 f j j′ h h′ same inputs q =
+      let low = reads-lower old j (omega (arith, old .whole)) in
+      counterpart Q 𝓠 f j j′ h h′ same inputs (q _ (omega (arith, low .first)), q _ (omega (arith, low .second)), q _ (omega (arith, low .third)))
+
+  -- tables whose first records are the same have the same first nodes
+  pub agree-below : (i : ℕ) → i ≤ n + m + o → i ≤ n + m′ + o → ((j : ℕ) → j < i → recordAt rs′ j ≡ recordAt rs j) → (k : ℕ) → k ≤ i → worth 𝓜 rs k ≡ worth 𝓜 rs′ k
+  agree-below i h h′ same =
+      node-induction (λ k. worth 𝓜 rs k ≡ worth 𝓜 rs′ k) i (node-zero 𝓜 rs ∙ sym (node-zero 𝓜 rs′))
+      (λ j l below.
+      counterpart-lower (λ a b. a ≡ b) (equals 𝓜) (λ x. x) j j (omega arith) (omega arith) (same j l) (λ p. refl)
+      (λ x q. edge-agrees 𝓜 _ _ x (below (nodeOf x) q)))
