@@ -6,8 +6,9 @@ use mathlib.Core.List.{List}
 use native.Mathlib.Omega.{arith}
 use lib.Dec.{ltb}
 use lib.ListN.{length}
+use Rattle.refusals.specs.Why.{why}
 use Rattle.majority.specs.If.{if_then_else_}
-use Rattle.majority.specs.Check.{Reply, accepted, refused, andThen}
+use Rattle.refusals.specs.Reply.{Reply, accepted, refused, andThen}
 use Rattle.translation.specs.Translate.{translation, operations}
 use Rattle.majority.specs.declared.Record.{Record}
 use Rattle.majority.specs.declared.Counts.{Counts}
@@ -19,7 +20,7 @@ use Rattle.demands.specs.Demand3.{After, tableAfter, Keeps, KeepsRm3, De
 use Rattle.demands.proofs.Demand3.{demand-3}
 
 -- where the buffer holds a table, that is the table
-held : (full : Bool) (made ts : List Record) → (if full then refused 11 0 else accepted made) ≡ accepted ts → made ≡ ts
+held : (full : Bool) (made ts : List Record) → (if full then refused (why 11) else accepted made) ≡ accepted ts → made ≡ ts
 held true made ts e = let z : _≡_ {A = ℕ} 0 1 = cc in absurd (omega arith)
 held false made ts e = let same : made ≡ ts = cc in same
 

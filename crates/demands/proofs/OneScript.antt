@@ -6,8 +6,10 @@ use mathlib.Core.List.{List, [], _∷_}
 use native.Mathlib.Omega.{arith}
 use lib.Dec.{eqb}
 use lib.ListN.{length, take}
+use Rattle.refusals.specs.Why.{why}
 use Rattle.majority.specs.If.{if_then_else_}
-use Rattle.majority.specs.Check.{counts, Reply, accepted, refused}
+use Rattle.refusals.specs.Reply.{Reply, accepted, refused}
+use Rattle.majority.specs.Check.{counts}
 use Rattle.majority.specs.declared.Record.{Record}
 use Rattle.rules.proofs.Kept.{kept-then}
 use Rattle.tables.specs.Calls.{checkOf}
@@ -38,12 +40,12 @@ ran (r ∷ steps) taken n m o xs used is = go (replyTo xs used r) refl (λ m′ 
   where
     go : (reply : Reply ℕ) → replyTo xs used r ≡ reply
         → ((m′ : ℕ) (ys : List ℕ) (next : ℕ) → checkOf ys next ≡ accepted (counts n m′ o) → Ran (taken + 1) n m′ o ys next steps (runFrom (taken + 1) ys next steps))
-        → Ran taken n m o xs used (r ∷ steps) (byReply reply (λ next. runFrom (taken + 1) (bytesAfter xs used r) next steps) (λ k i. record { taken = taken; end = stopped k i; used = used; bytes = xs }))
+        → Ran taken n m o xs used (r ∷ steps) (byReply reply (λ next. runFrom (taken + 1) (bytesAfter xs used r) next steps) (λ w. record { taken = taken; end = stopped w; used = used; bytes = xs }))
     go (accepted next) e rest =
         let p = between-step xs used n m o is r next e in
         let q = rest (p .gates) (bytesAfter xs used r) next (p .holds) in
         record { more = suc (q .more); adds = omega (arith, q .adds); between = between-then p (q .between) }
-    go (refused k i) e rest = ran-none taken n m o xs used (r ∷ steps) _ is refl refl refl
+    go (refused w) e rest = ran-none taken n m o xs used (r ∷ steps) _ is refl refl refl
 
 -- a script, whatever it is
 module _ (xs : List ℕ) (used n m o : ℕ) (is : checkOf xs used ≡ accepted (counts n m o)) (script : List ℕ) where
@@ -51,7 +53,7 @@ module _ (xs : List ℕ) (used n m o : ℕ) (is : checkOf xs used ≡ accepted (
   unfolding scriptRun
   whole = rw is (go (not (eqb (length script % 8) 0)))
     where
-      go : (odd : Bool) → Ran 0 n m o xs used (stepsOf script) (if odd then untaken 12 0 xs used else runFrom 0 xs used (stepsOf script))
+      go : (odd : Bool) → Ran 0 n m o xs used (stepsOf script) (if odd then untaken (why 12) xs used else runFrom 0 xs used (stepsOf script))
       go true = ran-none 0 n m o xs used (stepsOf script) _ is refl refl refl
       go false = ran (stepsOf script) 0 n m o xs used is
 

@@ -6,9 +6,11 @@ use native.Mathlib.Omega.{arith}
 use borrow.Author.Tests.{le-ltb, eq-eqb}
 use lib.ListN.{length, length-append, length-drop, length-replicate}
 use lib.Seq.{ext-getD}
+use Rattle.refusals.specs.Why.{Why}
 use Rattle.majority.specs.Table.{blank}
 use Rattle.rules.specs.Kept.{Kept}
-use Rattle.majority.specs.Check.{counts, Reply, accepted, refused, andThen, checkRecords, count}
+use Rattle.refusals.specs.Reply.{Reply, accepted, refused, andThen}
+use Rattle.majority.specs.Check.{counts, checkRecords, count}
 use Rattle.rules.specs.Step.{step, deepens}
 use Rattle.majority.specs.declared.Record.{Record}
 use Rattle.majority.proofs.Accepted.{Accepted, acceptance, accepts}
@@ -95,16 +97,16 @@ module _ (xs : List ℕ) (used n m o : ℕ) (is : checkOf xs used ≡ accepted (
         go (accepted t) is′ =
             let same : 8 * length t ≡ next = let p : accepted (8 * length t) ≡ accepted next = sym (reply-is ∙ rw is′) ∙ e in cc in
             rw (bytes-are, is′, ← same) (stored-between t is′)
-        go (refused k i) is′ =
-            let p : refused k i ≡ accepted next = sym (reply-is ∙ rw is′) ∙ e in
+        go (refused w) is′ =
+            let p : refused w ≡ accepted next = sym (reply-is ∙ rw is′) ∙ e in
             let z : _≡_ {A = ℕ} 0 1 = cc in
             absurd (omega arith)
 
 -- a step that is refused leaves every byte, as a script that stops there has it
-pub refused-step : (xs : List ℕ) (used : ℕ) (r : Record) (k i : ℕ) → replyTo xs used r ≡ refused k i → bytesAfter xs used r ≡ xs
+pub refused-step : (xs : List ℕ) (used : ℕ) (r : Record) (w : Why) → replyTo xs used r ≡ refused w → bytesAfter xs used r ≡ xs
 unfolding stepOf stepBytes
-refused-step xs used r k i e = go (stepTable xs used (r .kind) (r .e1) (r .e2) (r .e3)) e
+refused-step xs used r w e = go (stepTable xs used (r .kind) (r .e1) (r .e2) (r .e3)) e
   where
-    go : (reply : Reply (List Record)) → andThen reply (λ t. accepted (8 * length t)) ≡ refused k i → afterReply reply used xs ≡ xs
+    go : (reply : Reply (List Record)) → andThen reply (λ t. accepted (8 * length t)) ≡ refused w → afterReply reply used xs ≡ xs
     go (accepted t) p = let z : _≡_ {A = ℕ} 0 1 = cc in absurd (omega arith)
-    go (refused k′ i′) p = refl
+    go (refused v) p = refl

@@ -6,7 +6,8 @@ use lib.ListN.{take}
 use Rattle.majority.specs.Table.{Below, WellFormed}
 use Rattle.majority.specs.Value.{outputValue}
 use Rattle.majority.specs.Level.{depth}
-use Rattle.majority.specs.Check.{accepted, counts}
+use Rattle.refusals.specs.Reply.{accepted}
+use Rattle.majority.specs.Check.{counts}
 use Rattle.majority.specs.Edit.{nodeRecord}
 use Rattle.rules.specs.Step.{deepens}
 use Rattle.translation.specs.Rm3.{WellFormed3, outputValue3, depth3}

@@ -3,7 +3,7 @@ ghost use mathlib.Core.Path.{_≡_};
 ghost use mathlib.Core.List.{_++_};
 ghost use Rattle.text.specs.Shown.{shown, cut, fourBytes};
 use libc::STDOUT_FILENO;
-use tables::Refusal;
+use refusals::Refusal;
 use text::Line;
 
 // The bytes so far, which a line holds as it would a text.
@@ -28,8 +28,8 @@ impl Reply {
     // The beginning of a reply with a refusal.
     pub fn refused(r: Refusal) -> Reply {
         Reply::begun(
-            tables::refusal_number(r) as usize,
-            tables::refusal_record(r),
+            refusals::refusal_number(r) as usize,
+            refusals::refusal_record(r),
         )
     }
 

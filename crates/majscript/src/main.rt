@@ -2,10 +2,10 @@
 // standard output, and what the script replied to standard error.
 use libc::STDIN_FILENO;
 use libc::STDOUT_FILENO;
+use refusals::refusal_number;
+use refusals::refusal_record;
 use rewriting::Ending;
 use rewriting::Progress;
-use tables::refusal_number;
-use tables::refusal_record;
 use text::Line;
 
 // The most bytes that a script file may have, and room for one more, to see that it is longer.

@@ -1,7 +1,7 @@
 // The static library: every call for C, on pointers with lengths (include/pulpgarnet.h). Each reply is a struct of numbers.
+use refusals::refusal_number;
+use refusals::refusal_record;
 use rewriting::Ending;
-use tables::refusal_number;
-use tables::refusal_record;
 ghost use mathlib.Core.Path.{_≡_};
 ghost use lib.ListN.{length};
 ghost use Rattle.tables.specs.Calls.{checkOf};

@@ -1,6 +1,6 @@
 -- The questions' replies are one-to-one too: a promise has one reply.
 use mathlib.Core.Path.{_≡_, refl, ap}
-use Rattle.tables.proofs.Said.{back, once, refusal-back}
+use Rattle.refusals.proofs.Said.{back, once, refusal-back}
 use Rattle.questions.specs.declared.Valued.{Valued}
 use Rattle.questions.specs.declared.Valued.the-variants.{Outputs, Refused as ValueRefused}
 use Rattle.questions.specs.declared.Reported.{Reported}

@@ -7,8 +7,10 @@ use native.Mathlib.Omega.{arith}
 use borrow.Author.Tests.{eq-eqb, le-ltb}
 use lib.ListN.{length, take}
 use lib.Seq.{length-take-le}
+use Rattle.refusals.specs.Why.{why}
 use Rattle.majority.specs.Seek.{firstFrom}
-use Rattle.majority.specs.Check.{Reply, accepted, refused, andThen, count, checkKinds}
+use Rattle.refusals.specs.Reply.{Reply, accepted, refused, andThen}
+use Rattle.majority.specs.Check.{count, checkKinds}
 use Rattle.majority.specs.declared.Record.{Record}
 use Rattle.majority.specs.declared.Counts.{Counts}
 use Rattle.tables.specs.Bytes.{decode, tableOf}
@@ -22,7 +24,7 @@ use Rattle.questions.specs.Claimed.{claimedEvaluate, claimedReport}
 use Rattle.reading.specs.Held.{claim, found, foundIn, partIn, countsIn, orThree, readCheck, readEvaluate, readReport}
 
 -- no records and no counts: 3
-none-claimed : claimedCheck [] (claim 0 0 0) ≡ refused 3 0
+none-claimed : claimedCheck [] (claim 0 0 0) ≡ refused (why 3)
 unfolding claimedCheck checkClaimed checkKinds checkCounted decode count firstFrom
 none-claimed = refl
 
@@ -50,7 +52,7 @@ module _ (xs : List ℕ) (used : ℕ) where
       go : (k : Reply Counts) → checkOf xs used ≡ k
           → claimedCheck (take (found used k .used) xs) (claim (found used k .inputs) (found used k .gates) (found used k .outputs)) ≡ orThree k
       go (accepted c) e = part-claimed c e
-      go (refused k i) e = none-claimed
+      go (refused w) e = none-claimed
 
   -- what follows the check
   read-then : {A : Type 0} (f : List Record → Counts → Reply A)
@@ -62,7 +64,7 @@ module _ (xs : List ℕ) (used : ℕ) where
           → andThen (claimedCheck (take (found used k .used) xs) (claim (found used k .inputs) (found used k .gates) (found used k .outputs))) (f (tableOf (take (found used k .used) xs) (length (take (found used k .used) xs) / 8)))
           ≡ andThen (orThree k) (f (tableOf xs (used / 8)))
       go (accepted c) e = rw (part-claimed c e, part-table c e)
-      go (refused k i) e = rw none-claimed
+      go (refused w) e = rw none-claimed
 
   pub read-evaluate : (a : ℕ) → claimedEvaluate (partIn xs used) (countsIn xs used) a ≡ readEvaluate xs used a
   unfolding claimedEvaluate readEvaluate

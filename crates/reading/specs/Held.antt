@@ -2,7 +2,9 @@
 use Prim.Native.Nat.{ℕ, _/_}
 use mathlib.Core.List.{List}
 use lib.ListN.{take}
-use Rattle.majority.specs.Check.{Reply, accepted, refused, andThen, counts}
+use Rattle.refusals.specs.Why.{why}
+use Rattle.refusals.specs.Reply.{Reply, accepted, refused, andThen}
+use Rattle.majority.specs.Check.{counts}
 use Rattle.majority.specs.declared.Counts.{Counts}
 use Rattle.tables.specs.Bytes.{tableOf}
 use Rattle.tables.specs.Calls.{checkOf}
@@ -22,7 +24,7 @@ claimed r = claim (r .inputs) (r .gates) (r .outputs)
 -- the used length and counts that a check gives, all zero where it refuses
 abbrev pub found : ℕ → Reply Counts → Found
 found used (accepted c) = record { used = used; inputs = c .inputs; gates = c .gates; outputs = c .outputs }
-found used (refused k i) = record { used = 0; inputs = 0; gates = 0; outputs = 0 }
+found used (refused w) = record { used = 0; inputs = 0; gates = 0; outputs = 0 }
 
 -- those of the first used bytes of xs
 unfoldable pub foundIn : List ℕ → ℕ → Found
@@ -38,7 +40,7 @@ countsIn xs used = claim (foundIn xs used .inputs) (foundIn xs used .gates) (fou
 -- where the check refuses, no reading is had: 3
 abbrev pub orThree : Reply Counts → Reply Counts
 orThree (accepted c) = accepted c
-orThree (refused k i) = refused 3 0
+orThree (refused w) = refused (why 3)
 
 -- what the reading of the first used bytes of xs replies
 unfoldable pub readCheck : List ℕ → ℕ → Reply Counts

@@ -6,7 +6,8 @@ use native.Mathlib.Omega.{arith}
 use lib.ListN.{length, length-append, length-drop, length-replicate}
 use lib.Seq.{ext-getD}
 use Rattle.majority.specs.Table.{blank}
-use Rattle.majority.specs.Check.{Reply, accepted, refused, andThen, count}
+use Rattle.refusals.specs.Reply.{Reply, accepted, refused, andThen}
+use Rattle.majority.specs.Check.{count}
 use Rattle.majority.specs.declared.Record.{Record}
 use Rattle.majority.specs.declared.Counts.{Counts}
 use Rattle.majority.proofs.Accepted.{accepts}
@@ -42,7 +43,7 @@ module _ {xs : List ℕ} {c : Counts} (sound : Sound xs c) (rule g a b used : �
   onward = go (stepIn xs c rule g a b) refl (sym (rw (table-same sound rule g a b)) ∙ taken)
     where
       go : (r : Reply (List Record)) → stepIn xs c rule g a b ≡ r → andThen r (λ t. accepted (8 * length t)) ≡ accepted used → Onward
-      go (refused k i) is e = let z : _≡_ {A = ℕ} 0 1 = cc in absurd (omega arith)
+      go (refused w) is e = let z : _≡_ {A = ℕ} 0 1 = cc in absurd (omega arith)
       go (accepted t) is e =
           let len : 8 * length t ≡ used = cc in
           let was = sound-accepted sound in
@@ -67,5 +68,5 @@ unfolding stepBytes
 step-length {xs} {c} sound rule g a b = rw (table-same sound rule g a b) (go (stepIn xs c rule g a b) refl)
   where
     go : (r : Reply (List Record)) → stepIn xs c rule g a b ≡ r → length (afterReply r (usedBy c) xs) ≡ length xs
-    go (refused k i) is = refl
+    go (refused w) is = refl
     go (accepted t) is = stored-length t (usedBy c) xs (sound .fits) (step-fits (sound-accepted sound .formed) (length xs) rule g a b t is)

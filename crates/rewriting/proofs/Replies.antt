@@ -5,15 +5,17 @@ use mathlib.Core.List.{List}
 use native.Mathlib.Omega.{arith}
 use borrow.Author.Tests.{eq-eqb, le-ltb}
 use lib.ListN.{length}
-use Rattle.majority.specs.Check.{Reply, accepted, refused, andThen, count}
+use Rattle.refusals.specs.Reply.{Reply, accepted, refused, andThen}
+use Rattle.majority.specs.Check.{count}
 use Rattle.rules.specs.Step.{step}
 use Rattle.majority.specs.declared.Record.{Record}
 use Rattle.majority.specs.declared.Counts.{Counts}
 use Rattle.rules.proofs.Steps.{step-kept, step-gates}
 use Rattle.tables.specs.Calls.{checkOf}
 use Rattle.tables.specs.Sound.{Sound}
-use Rattle.tables.specs.Said.{refusalNumber, refusalRecord, saidCheck}
-use Rattle.tables.specs.declared.Refusal.{Refusal}
+use Rattle.refusals.specs.Why.{Why, whyOf}
+use Rattle.tables.specs.Said.{saidCheck}
+use Rattle.refusals.specs.declared.Refusal.{Refusal}
 use Rattle.tables.specs.declared.Checked.{Checked}
 use Rattle.tables.specs.declared.Checked.the-variants.{Refused}
 use Rattle.tables.proofs.Sound.{sound-accepted}
@@ -46,17 +48,14 @@ module _ {xs : List ℕ} {c : Counts} (sound : Sound xs c) (rule g a b gates : �
             long = step-kept formed (length xs) rule g a b t is .formed .whole ∙ ap (λ (m : ℕ). c .inputs + m + c .outputs) (sym same);
             few = rw same (step-gates formed (length xs) rule g a b t is);
           }
-      go (refused k i) is e = let z : _≡_ {A = ℕ} 0 1 = cc in absurd (omega arith)
+      go (refused w) is e = let z : _≡_ {A = ℕ} 0 1 = cc in absurd (omega arith)
 
   pub taken-made : {r : Applied} {ys : List ℕ} → AppliedTo xs c rule g a b r ys → r ≡ AppliedTaken gates → Made xs c rule g a b gates
   taken-made done e = made (ap saidApplied (sym e) ∙ done .reply)
 
-not-taken : {A B : Type 0} (r : Reply A) (f : A → B) (k i : ℕ) → refused k i ≡ andThen r (λ x. accepted (f x)) → r ≡ refused k i
-not-taken (accepted x) f k i e = let z : _≡_ {A = ℕ} 0 1 = cc in absurd (omega arith)
-not-taken (refused j h) f k i e =
-    let p : j ≡ k = cc in
-    let q : h ≡ i = cc in
-    rw (p, q)
+not-taken : {A B : Type 0} (r : Reply A) (f : A → B) (w : Why) → refused w ≡ andThen r (λ x. accepted (f x)) → r ≡ refused w
+not-taken (accepted x) f w e = let z : _≡_ {A = ℕ} 0 1 = cc in absurd (omega arith)
+not-taken (refused v) f w e = let same : v ≡ w = cc in ap refused same
 
 -- a sound table is accepted at its own length
 pub sound-checked : {xs : List ℕ} {c : Counts} → Sound xs c → checkOf xs (usedBy c) ≡ accepted c
@@ -80,17 +79,17 @@ module _ {xs : List ℕ} {c : Counts} (sound : Sound xs c) (rule g a b : ℕ) wh
   step-replies m = rw (table-same, m .is, m .long)
 
   pub step-refuses : {done : Applied} {ys : List ℕ} (refusal : Refusal) → AppliedTo xs c rule g a b done ys → done ≡ AppliedRefused refusal
-      → stepOf xs (usedBy c) rule g a b ≡ refused (refusalNumber refusal) (refusalRecord refusal)
+      → stepOf xs (usedBy c) rule g a b ≡ refused (whyOf refusal)
   unfolding stepOf
-  step-refuses refusal applied e = rw (table-same, not-taken (stepIn xs c rule g a b) (count 2) _ _ (ap saidApplied (sym e) ∙ applied .reply))
+  step-refuses refusal applied e = rw (table-same, not-taken (stepIn xs c rule g a b) (count 2) _ (ap saidApplied (sym e) ∙ applied .reply))
 
 -- where the table is refused
 module _ (xs : List ℕ) (used : ℕ) (r : Checked) (said : saidCheck r ≡ checkOf xs used) (rule g a b : ℕ) (refusal : Refusal) (is : r ≡ Refused refusal) where
-  table-refused : stepTable xs used rule g a b ≡ refused (refusalNumber refusal) (refusalRecord refusal)
+  table-refused : stepTable xs used rule g a b ≡ refused (whyOf refusal)
   unfolding stepTable
   table-refused = after-refused xs used (λ (rs : List Record) (c : Counts). step (length xs) (c .inputs) (c .gates) rs rule g a b) r said refusal is
 
-  pub refused-replies : stepOf xs used rule g a b ≡ refused (refusalNumber refusal) (refusalRecord refusal)
+  pub refused-replies : stepOf xs used rule g a b ≡ refused (whyOf refusal)
   unfolding stepOf
   refused-replies = rw table-refused
 

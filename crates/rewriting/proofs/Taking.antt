@@ -9,7 +9,8 @@ use lib.Dec.{eqb}
 use lib.ListN.{length}
 use Rattle.majority.specs.If.{if_then_else_}
 use Rattle.majority.specs.Table.{WellFormed}
-use Rattle.majority.specs.Check.{accepted, refused, count}
+use Rattle.refusals.specs.Reply.{accepted, refused}
+use Rattle.majority.specs.Check.{count}
 use Rattle.rules.specs.Sweep.{sweep}
 use Rattle.rules.specs.Step.{badRule, fieldsFit, hasForm, inserted, rewritten, step}
 use Rattle.majority.specs.declared.Record.{Record}
@@ -20,8 +21,8 @@ use Rattle.majority.proofs.Accepted.{order-of}
 use Rattle.rules.proofs.Sweep.{left-fewer, sweep-kept}
 use Rattle.rules.proofs.Steps.{gatesAfter, step-count, step-kept}
 use Rattle.tables.specs.Sound.{Sound, tableIn}
-use Rattle.tables.specs.Said.{refusalNumber, refusalRecord}
-use Rattle.tables.specs.declared.Refusal.{Refusal}
+use Rattle.refusals.specs.Why.{why, whyOf}
+use Rattle.refusals.specs.declared.Refusal.{Refusal}
 use Rattle.tables.proofs.Decoded.{length-table}
 use Rattle.tables.proofs.Sound.{sound-accepted}
 use Rattle.editing.specs.Edited.{holding}
@@ -81,7 +82,7 @@ module _ {xs : List ℕ} {c : Counts} {rule g a b : ℕ} (fit : Fitting xs c rul
   pub applied-taken : {ys : List ℕ} (r : ℕ) → Rewritten xs c rule g a r ys → AppliedTo xs c rule g a b (AppliedTaken r) ys
   applied-taken r done = record { reply = rw fit-step (ap accepted (done .gates)); bytes = rw fit-step (done .bytes) }
 
-pub applied-refused : {xs : List ℕ} {c : Counts} {rule g a b : ℕ} (r : Refusal) → stepIn xs c rule g a b ≡ refused (refusalNumber r) (refusalRecord r) → AppliedTo xs c rule g a b (AppliedRefused r) xs
+pub applied-refused : {xs : List ℕ} {c : Counts} {rule g a b : ℕ} (r : Refusal) → stepIn xs c rule g a b ≡ refused (whyOf r) → AppliedTo xs c rule g a b (AppliedRefused r) xs
 applied-refused r e = record { reply = rw e; bytes = rw e }
 
 -- sweep leaves no more gates than there were
@@ -94,26 +95,26 @@ swept-fewer {xs} {c = c} sound swept =
 
 -- the refusals of a step, in their order
 module _ (bytes n m : ℕ) (rs : List Record) (rule g a b : ℕ) where
-  pub refuse-7 : badRule rule ≡ true → step bytes n m rs rule g a b ≡ refused 7 0
+  pub refuse-7 : badRule rule ≡ true → step bytes n m rs rule g a b ≡ refused (why 7)
   unfolding step
   refuse-7 h = rw h
 
   module _ (known : badRule rule ≡ false) where
-    pub refuse-8 : fieldsFit n m rule g a b ≡ false → step bytes n m rs rule g a b ≡ refused 8 0
+    pub refuse-8 : fieldsFit n m rule g a b ≡ false → step bytes n m rs rule g a b ≡ refused (why 8)
     unfolding step
     refuse-8 h = rw (known, h)
 
     module _ (fields : fieldsFit n m rule g a b ≡ true) where
-      pub refuse-9 : hasForm n rs rule g a ≡ false → step bytes n m rs rule g a b ≡ refused 9 0
+      pub refuse-9 : hasForm n rs rule g a ≡ false → step bytes n m rs rule g a b ≡ refused (why 9)
       unfolding step
       refuse-9 h = rw (known, fields, h)
 
       module _ (form : hasForm n rs rule g a ≡ true) where
-        pub refuse-10 : 1024 < m + inserted rule → step bytes n m rs rule g a b ≡ refused 10 0
+        pub refuse-10 : 1024 < m + inserted rule → step bytes n m rs rule g a b ≡ refused (why 10)
         unfolding step
         refuse-10 h = rw (known, fields, form, lt-ltb 1024 (m + inserted rule) h)
 
-        pub refuse-11 : m + inserted rule ≤ 1024 → bytes < 8 * (length rs + inserted rule) → step bytes n m rs rule g a b ≡ refused 11 0
+        pub refuse-11 : m + inserted rule ≤ 1024 → bytes < 8 * (length rs + inserted rule) → step bytes n m rs rule g a b ≡ refused (why 11)
         unfolding step
         refuse-11 few h = rw (known, fields, form, le-ltb 1024 (m + inserted rule) few, lt-ltb bytes (8 * (length rs + inserted rule)) h)
 

@@ -6,10 +6,11 @@ use native.Mathlib.Numerals.{add-one}
 use native.Mathlib.Omega.{arith}
 use lib.ListN.{length, drop, drop-of-length-le}
 use lib.Seq.{drop-cons}
+use Rattle.refusals.specs.Why.{Why}
 use Rattle.majority.specs.Table.{blank, recordAt}
-use Rattle.majority.specs.Check.{Reply, accepted, refused, andThen}
+use Rattle.refusals.specs.Reply.{Reply, accepted, refused, andThen}
 use Rattle.majority.specs.declared.Record.{Record}
-use Rattle.tables.specs.declared.Refusal.{Refusal}
+use Rattle.refusals.specs.declared.Refusal.{Refusal}
 use Rattle.tables.proofs.Decoded.{length-table}
 use Rattle.rewriting.specs.Applied.{afterReply}
 use Rattle.rewriting.specs.Calls.{stepTable, stepOf, stepBytes, saidStep}
@@ -20,13 +21,13 @@ use Rattle.rewriting.specs.declared.Stepped.{Stepped}
 use Rattle.rewriting.specs.declared.Stepped.the-variants.{Used, Refused}
 
 -- a refused step leaves every byte
-refused-bytes : (xs : List ℕ) (used rule g a b k i : ℕ) → stepOf xs used rule g a b ≡ refused k i → stepBytes xs used rule g a b ≡ xs
+refused-bytes : (xs : List ℕ) (used rule g a b : ℕ) (w : Why) → stepOf xs used rule g a b ≡ refused w → stepBytes xs used rule g a b ≡ xs
 unfolding stepOf stepBytes
-refused-bytes xs used rule g a b k i e = go (stepTable xs used rule g a b) e
+refused-bytes xs used rule g a b w e = go (stepTable xs used rule g a b) e
   where
-    go : (r : Reply (List Record)) → andThen r (λ t. accepted (8 * length t)) ≡ refused k i → afterReply r used xs ≡ xs
+    go : (r : Reply (List Record)) → andThen r (λ t. accepted (8 * length t)) ≡ refused w → afterReply r used xs ≡ xs
     go (accepted t) e = let z : _≡_ {A = ℕ} 0 1 = cc in absurd (omega arith)
-    go (refused j h) e = refl
+    go (refused v) e = refl
 
 module _ (xs : List ℕ) (p p′ : Progress) (r : Record) (rs : List Record) where
   -- a turn that goes on
@@ -52,7 +53,7 @@ module _ (xs : List ℕ) (p p′ : Progress) (r : Record) (rs : List Record) whe
       let z : _≡_ {A = ℕ} 0 1 = cc in
       absurd (omega arith)
   turn-off (Refused x) e said shut =
-      let still = refused-bytes xs (p .used) (r .kind) (r .e1) (r .e2) (r .e3) _ _ (sym said) in
+      let still = refused-bytes xs (p .used) (r .kind) (r .e1) (r .e2) (r .e3) _ (sym said) in
       rw (e, still, ← said)
 
 -- the steps from step i on

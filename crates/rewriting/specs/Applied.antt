@@ -3,13 +3,14 @@ use Prim.Native.Nat.{ℕ, _+_, _-_, _*_, max}
 use mathlib.Core.Path.{_≡_}
 use mathlib.Core.List.{List, _++_}
 use lib.ListN.{length, drop, replicate}
-use Rattle.majority.specs.Check.{Reply, accepted, refused, andThen, count}
+use Rattle.refusals.specs.Reply.{Reply, accepted, refused, andThen}
+use Rattle.majority.specs.Check.{count}
 use Rattle.rules.specs.Step.{rewritten, step}
 use Rattle.majority.specs.declared.Record.{Record}
 use Rattle.majority.specs.declared.Counts.{Counts}
 use Rattle.tables.specs.Bytes.{encode}
 use Rattle.tables.specs.Sound.{tableIn}
-use Rattle.tables.specs.Said.{refusalNumber, refusalRecord}
+use Rattle.refusals.specs.Why.{whyOf}
 use Rattle.rewriting.specs.declared.Applied.{Applied}
 use Rattle.rewriting.specs.declared.Applied.the-variants.{Taken, Refused}
 
@@ -20,7 +21,7 @@ stored t used xs = encode t ++ (replicate (used - 8 * length t) 0 ++ drop (max u
 -- the bytes that a reply leaves: those of the new table, or all as they were
 abbrev pub afterReply : Reply (List Record) → ℕ → List ℕ → List ℕ
 afterReply (accepted t) used xs = stored t used xs
-afterReply (refused k i) used xs = xs
+afterReply (refused w) used xs = xs
 
 -- the used length of a table with these counts
 abbrev pub usedBy : Counts → ℕ
@@ -37,7 +38,7 @@ stepIn xs c rule g a b = step (length xs) (c .inputs) (c .gates) (tableIn xs c) 
 
 abbrev pub saidApplied : Applied → Reply ℕ
 saidApplied (Taken gates) = accepted gates
-saidApplied (Refused r) = refused (refusalNumber r) (refusalRecord r)
+saidApplied (Refused r) = refused (whyOf r)
 
 -- a step replies with r and leaves ys
 pub record AppliedTo (xs : List ℕ) (c : Counts) (rule g a b : ℕ) (r : Applied) (ys : List ℕ) : Type 0 where

@@ -2,12 +2,12 @@
 use Prim.Native.Nat.{ℕ, _*_, _/_}
 use mathlib.Core.List.{List}
 use lib.ListN.{length}
-use Rattle.majority.specs.Check.{Reply, accepted, refused, andThen}
+use Rattle.refusals.specs.Reply.{Reply, accepted, refused, andThen}
 use Rattle.rules.specs.Step.{step}
 use Rattle.majority.specs.declared.Record.{Record}
 use Rattle.tables.specs.Bytes.{tableOf}
 use Rattle.tables.specs.Calls.{checkOf}
-use Rattle.tables.specs.Said.{refusalNumber, refusalRecord}
+use Rattle.refusals.specs.Why.{whyOf}
 use Rattle.rewriting.specs.Applied.{afterReply}
 use Rattle.rewriting.specs.declared.Stepped.{Stepped}
 use Rattle.rewriting.specs.declared.Stepped.the-variants.{Used, Refused}
@@ -26,4 +26,4 @@ stepBytes xs used rule g a b = afterReply (stepTable xs used rule g a b) used xs
 -- the reply of each case of the enum
 abbrev pub saidStep : Stepped → Reply ℕ
 saidStep (Used n) = accepted n
-saidStep (Refused r) = refused (refusalNumber r) (refusalRecord r)
+saidStep (Refused r) = refused (whyOf r)

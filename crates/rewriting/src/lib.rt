@@ -4,10 +4,10 @@ mod running;
 mod sweeping;
 
 use applying::take;
+use refusals::Refusal;
 use running::run;
 use running::stopped;
 use tables::Checked;
-use tables::Refusal;
 use tables::check;
 ghost use mathlib.Core.Path.{_≡_};
 ghost use Prim.Native.Nat.{_<_};

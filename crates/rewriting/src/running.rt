@@ -3,7 +3,7 @@ use crate::Ending;
 use crate::Progress;
 use crate::applying::take;
 use majority::Counts;
-use tables::Refusal;
+use refusals::Refusal;
 use tables::record_at;
 ghost use mathlib.Core.Path.{_≡_};
 ghost use Rattle.tables.specs.Sound.{Sound};

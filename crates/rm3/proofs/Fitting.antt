@@ -5,8 +5,9 @@ use mathlib.Core.List.{List}
 use native.Mathlib.Omega.{arith}
 use borrow.Author.Tests.{lt-ltb, le-ltb}
 use lib.ListN.{length}
+use Rattle.refusals.specs.Why.{why}
 use Rattle.translation.specs.Translate.{translation}
-use Rattle.majority.specs.Check.{accepted, refused}
+use Rattle.refusals.specs.Reply.{accepted, refused}
 use Rattle.majority.specs.declared.Counts.{Counts}
 use Rattle.translation.proofs.Rm3Formed.{translated-formed}
 use Rattle.translation.proofs.Rm3Size.{translated-size}
@@ -23,7 +24,7 @@ module _ {xs : List ℕ} {c : Counts} (sound : Sound xs c) where
   pub fitting-small : operandsIn (tableIn xs c) c + c .outputs ≤ 3168
   fitting-small = let limits = sound-accepted sound .limits in omega (arith, translated-size (sound-formed sound))
 
-  pub not-fitting : (room : ℕ) → room < 8 * (operandsIn (tableIn xs c) c + c .outputs) → rm3In room (tableIn xs c) c ≡ refused 11 0
+  pub not-fitting : (room : ℕ) → room < 8 * (operandsIn (tableIn xs c) c + c .outputs) → rm3In room (tableIn xs c) c ≡ refused (why 11)
   not-fitting room h = rw (fitting-size, lt-ltb room (8 * (operandsIn (tableIn xs c) c + c .outputs)) h)
 
   pub fitting : (room : ℕ) → 8 * (operandsIn (tableIn xs c) c + c .outputs) ≤ room → rm3In room (tableIn xs c) c ≡ accepted (translation (c .inputs) (c .gates) (tableIn xs c))

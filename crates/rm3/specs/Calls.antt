@@ -3,8 +3,9 @@ use Prim.Native.Nat.{ℕ, _*_, _/_}
 use mathlib.Core.List.{List, _++_}
 use lib.ListN.{length, drop}
 use lib.Dec.{ltb}
+use Rattle.refusals.specs.Why.{why}
 use Rattle.majority.specs.If.{if_then_else_}
-use Rattle.majority.specs.Check.{Reply, accepted, refused, andThen}
+use Rattle.refusals.specs.Reply.{Reply, accepted, refused, andThen}
 use Rattle.translation.specs.Rm3.{depth3}
 use Rattle.translation.specs.Translate.{translation, operations}
 use Rattle.majority.specs.declared.Record.{Record}
@@ -16,7 +17,7 @@ use Rattle.tables.specs.Calls.{checkOf}
 abbrev pub rm3In : ℕ → List Record → Counts → Reply (List Record)
 rm3In room rs c =
     let ts = translation (c .inputs) (c .gates) rs in
-    if ltb room (8 * length ts) then refused 11 0 else accepted ts
+    if ltb room (8 * length ts) then refused (why 11) else accepted ts
 
 -- the RM3 table of the first used bytes of xs, or the refusal
 unfoldable pub rm3Of : List ℕ → ℕ → ℕ → Reply (List Record)
@@ -32,7 +33,7 @@ translateOf xs used room = andThen (rm3Of xs used room) inBytes
 -- the bytes ys of a buffer with a table at their beginning; the same bytes after a refusal
 abbrev pub over : Reply (List Record) → List ℕ → List ℕ
 over (accepted ts) ys = encode ts ++ drop (8 * length ts) ys
-over (refused k i) ys = ys
+over (refused w) ys = ys
 
 unfoldable pub translateBytes : List ℕ → ℕ → List ℕ → List ℕ
 translateBytes xs used ys = over (rm3Of xs used (length ys)) ys

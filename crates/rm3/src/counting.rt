@@ -2,9 +2,9 @@
 use majority::Counts;
 use majority::GATE;
 use majority::Record;
+use tables::record_at;
 use translation::output_helped;
 use translation::pattern_of;
-use tables::record_at;
 ghost use mathlib.Core.Path.{_≡_};
 ghost use Rattle.translation.specs.Count3.{gateOperations, recordOperations};
 ghost use Rattle.translation.specs.Translate.{operations as operationsOf};

@@ -13,7 +13,7 @@ fn answer(table: &[u8; text::ROOM], used: usize) {
         }
         Translated::Refused(r) => {
             Line::empty()
-                .refused(tables::refusal_number(r), tables::refusal_record(r))
+                .refused(refusals::refusal_number(r), refusals::refusal_record(r))
                 .complain();
         }
     }

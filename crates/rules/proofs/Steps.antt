@@ -9,7 +9,8 @@ use lib.Dec.{eqb}
 use lib.ListN.{length}
 use Rattle.majority.specs.If.{if_then_else_}
 use Rattle.majority.specs.Table.{WellFormed}
-use Rattle.majority.specs.Check.{accepted, count}
+use Rattle.refusals.specs.Reply.{accepted}
+use Rattle.majority.specs.Check.{count}
 use Rattle.rules.specs.Step.{fieldsFit, hasForm, inserted, rewritten, step, deepens}
 use Rattle.rules.specs.Kept.{Kept}
 use Rattle.majority.specs.declared.Record.{Record}

@@ -6,8 +6,9 @@ use mathlib.Core.List.{List}
 use borrow.Author.Tests.{ltb-true, ltb-false, leb-true, le-ltb, not-false}
 use lib.Dec.{ltb, leb, eqb}
 use lib.ListN.{length}
+use Rattle.refusals.specs.Why.{why}
 use Rattle.majority.specs.If.{if_then_else_}
-use Rattle.majority.specs.Check.{accepted}
+use Rattle.refusals.specs.Reply.{accepted}
 use Rattle.rules.specs.Step.{badRule, isGate, fieldsFit, hasForm, inserted, rewritten, step}
 use Rattle.majority.specs.declared.Record.{Record}
 use Rattle.majority.proofs.Logic.{neither, both, passed}
@@ -25,11 +26,11 @@ module _ (bytes n m : ℕ) (rs : List Record) (rule g a b : ℕ) (rs′ : List R
   pub step-taken : step bytes n m rs rule g a b ≡ accepted rs′ → Taken bytes n m rs rule g a b rs′
   unfolding step
   step-taken e =
-      let s7 = passed (badRule rule) 7 0 _ rs′ e in
-      let s8 = passed (not (fieldsFit n m rule g a b)) 8 0 _ rs′ (s7 .1) in
-      let s9 = passed (not (hasForm n rs rule g a)) 9 0 _ rs′ (s8 .1) in
-      let s10 = passed (ltb 1024 (m + inserted rule)) 10 0 _ rs′ (s9 .1) in
-      let s11 = passed (ltb bytes (8 * (length rs + inserted rule))) 11 0 (accepted (rewritten rs rule g a)) rs′ (s10 .1) in
+      let s7 = passed (badRule rule) (why 7) _ rs′ e in
+      let s8 = passed (not (fieldsFit n m rule g a b)) (why 8) _ rs′ (s7 .1) in
+      let s9 = passed (not (hasForm n rs rule g a)) (why 9) _ rs′ (s8 .1) in
+      let s10 = passed (ltb 1024 (m + inserted rule)) (why 10) _ rs′ (s9 .1) in
+      let s11 = passed (ltb bytes (8 * (length rs + inserted rule))) (why 11) (accepted (rewritten rs rule g a)) rs′ (s10 .1) in
       let same : accepted (rewritten rs rule g a) ≡ accepted rs′ = s11 .1 in
       record {
         known = s7 .0;

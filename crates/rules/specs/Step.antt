@@ -4,11 +4,12 @@ use mathlib.Core.Bool.{Bool, true, not, _&&_, _||_}
 use mathlib.Core.List.{List}
 use lib.ListN.{length}
 use lib.Dec.{ltb, leb, eqb}
+use Rattle.refusals.specs.Why.{why}
 use Rattle.majority.specs.If.{if_then_else_}
 use Rattle.majority.specs.Edit.{nodeRecord}
 use Rattle.rules.specs.Rules.{named, exchange, majorityForm, majorityRule, associativityForm, associativity, outwardForm, outward, inwardForm, inward, inversion, shareForm, share}
 use Rattle.rules.specs.Sweep.{sweep}
-use Rattle.majority.specs.Check.{Reply, accepted, refused}
+use Rattle.refusals.specs.Reply.{Reply, accepted, refused}
 use Rattle.majority.specs.declared.Record.{Record}
 
 -- 7: the rule is not 1 to 8
@@ -61,11 +62,11 @@ rewritten rs rule g a =
 -- a step on a table of n inputs and m gates in a buffer of so many bytes
 unfoldable pub step : ℕ → ℕ → ℕ → List Record → ℕ → ℕ → ℕ → ℕ → Reply (List Record)
 step bytes n m rs rule g a b =
-    if badRule rule then refused 7 0
-    else if not (fieldsFit n m rule g a b) then refused 8 0
-    else if not (hasForm n rs rule g a) then refused 9 0
-    else if ltb 1024 (m + inserted rule) then refused 10 0
-    else if ltb bytes (8 * (length rs + inserted rule)) then refused 11 0
+    if badRule rule then refused (why 7)
+    else if not (fieldsFit n m rule g a b) then refused (why 8)
+    else if not (hasForm n rs rule g a) then refused (why 9)
+    else if ltb 1024 (m + inserted rule) then refused (why 10)
+    else if ltb bytes (8 * (length rs + inserted rule)) then refused (why 11)
     else accepted (rewritten rs rule g a)
 
 -- by how much a step of this rule may raise depth: associativity and distributivity by one, the others not at all

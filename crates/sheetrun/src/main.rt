@@ -1,9 +1,9 @@
 // Runs the limits of the sheet of small tables: makes each table, asks the library, and prints what was asked and answered, a line each.
 ghost use Prim.Native.Nat.{_≤_};
 use majority::Record;
+use refusals::Refusal;
 use rewriting::Stepped;
 use tables::Checked;
-use tables::Refusal;
 use text::Line;
 
 // An input.
@@ -65,7 +65,7 @@ fn asked(what: &[u8], number: u16, rest: &[u8]) -> Line {
 
 // Answers with a refusal.
 fn print_refused(line: Line, r: Refusal) {
-    line.refused(tables::refusal_number(r), tables::refusal_record(r))
+    line.refused(refusals::refusal_number(r), refusals::refusal_record(r))
         .print();
 }
 

@@ -3,15 +3,16 @@ use Prim.Native.Nat.{ℕ, _+_, _*_, _/_}
 use mathlib.Core.Path.{_≡_, refl, sym, ap, _∙_}
 use mathlib.Core.List.{List}
 use native.Mathlib.Omega.{arith}
-use Rattle.majority.specs.Check.{Reply, accepted, refused, andThen}
+use Rattle.refusals.specs.Reply.{Reply, accepted, refused, andThen}
 use Rattle.majority.specs.declared.Record.{Record}
 use Rattle.majority.specs.declared.Counts.{Counts}
 use Rattle.majority.proofs.Accepted.{acceptance}
 use Rattle.tables.specs.Bytes.{tableOf}
 use Rattle.tables.specs.Calls.{checkOf}
 use Rattle.tables.specs.Sound.{Sound, tableIn}
-use Rattle.tables.specs.Said.{refusalNumber, refusalRecord, saidCheck}
-use Rattle.tables.specs.declared.Refusal.{Refusal}
+use Rattle.refusals.specs.Why.{whyOf}
+use Rattle.tables.specs.Said.{saidCheck}
+use Rattle.refusals.specs.declared.Refusal.{Refusal}
 use Rattle.tables.specs.declared.Checked.{Checked}
 use Rattle.tables.specs.declared.Checked.the-variants.{Accepted, Refused}
 use Rattle.tables.proofs.Decoded.{length-table}
@@ -22,14 +23,14 @@ module _ {A : Type 0} (f : Counts → Reply A) (r : Checked) (reply : Reply Coun
   pub then-accepted : (c : Counts) → r ≡ Accepted c → andThen reply f ≡ f c
   then-accepted c e = let is : reply ≡ accepted c = sym said ∙ ap saidCheck e in rw is
 
-  pub then-refused : (refusal : Refusal) → r ≡ Refused refusal → andThen reply f ≡ refused (refusalNumber refusal) (refusalRecord refusal)
-  then-refused refusal e = let is : reply ≡ refused (refusalNumber refusal) (refusalRecord refusal) = sym said ∙ ap saidCheck e in rw is
+  pub then-refused : (refusal : Refusal) → r ≡ Refused refusal → andThen reply f ≡ refused (whyOf refusal)
+  then-refused refusal e = let is : reply ≡ refused (whyOf refusal) = sym said ∙ ap saidCheck e in rw is
 
 -- the table that the counts say is that of n records, wherever the check accepts
 pub same-table : {A : Type 0} (f : List Record → Counts → Reply A) (xs : List ℕ) (n : ℕ) (reply : Reply Counts) → ((c : Counts) → reply ≡ accepted c → tableOf xs n ≡ tableIn xs c)
     → andThen reply (λ c. f (tableIn xs c) c) ≡ andThen reply (f (tableOf xs n))
 same-table f xs n (accepted c) same = ap (λ (rs : List Record). f rs c) (sym (same c refl))
-same-table f xs n (refused k i) same = refl
+same-table f xs n (refused w) same = refl
 
 module _ (xs : List ℕ) (used : ℕ) where
   module _ (c : Counts) (is : checkOf xs used ≡ accepted c) where
@@ -53,7 +54,7 @@ module _ (xs : List ℕ) (used : ℕ) where
     pub after-accepted : (c : Counts) → r ≡ Accepted c → andThen (checkOf xs used) (f (tableOf xs (used / 8))) ≡ f (tableIn xs c) c
     after-accepted c e = then-accepted (f (tableOf xs (used / 8))) r _ said c e ∙ rw (checked-table c (sym said ∙ ap saidCheck e))
 
-    pub after-refused : (refusal : Refusal) → r ≡ Refused refusal → andThen (checkOf xs used) (f (tableOf xs (used / 8))) ≡ refused (refusalNumber refusal) (refusalRecord refusal)
+    pub after-refused : (refusal : Refusal) → r ≡ Refused refusal → andThen (checkOf xs used) (f (tableOf xs (used / 8))) ≡ refused (whyOf refusal)
     after-refused refusal e = then-refused (f (tableOf xs (used / 8))) r _ said refusal e
 
     -- the same from what `f` makes of the table that the counts say

@@ -8,8 +8,10 @@ use borrow.Author.Tests.{ltb-false, eqb-true, not-false}
 use lib.Dec.{ltb, eqb}
 use lib.ListN.{length, getD, drop}
 use lib.Seq.{drop-cons}
+use Rattle.refusals.specs.Why.{why}
 use Rattle.majority.specs.If.{if_then_else_}
-use Rattle.majority.specs.Check.{accepted, refused, checkRecords}
+use Rattle.refusals.specs.Reply.{accepted, refused}
+use Rattle.majority.specs.Check.{checkRecords}
 use Rattle.majority.specs.declared.Counts.{Counts}
 use Rattle.majority.proofs.Logic.{neither}
 use Rattle.tables.specs.Field.{fieldAt}
@@ -60,7 +62,7 @@ pub accepted-records : (xs : List ℕ) (used : ℕ) (c : Counts) → checkOf xs 
 unfolding checkOf
 accepted-records xs used c e = go (badLength xs used) refl e
   where
-    go : (t : Bool) → badLength xs used ≡ t → (if t then refused 1 0 else checkRecords (tableOf xs (used / 8))) ≡ accepted c
+    go : (t : Bool) → badLength xs used ≡ t → (if t then refused (why 1) else checkRecords (tableOf xs (used / 8))) ≡ accepted c
         → (used % 8 ≡ 0) × (used ≤ length xs) × (checkRecords (tableOf xs (used / 8)) ≡ accepted c)
     go true q h = let z : _≡_ {A = ℕ} 0 1 = cc in absurd (omega arith)
     go false q h =

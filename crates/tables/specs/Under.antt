@@ -1,8 +1,10 @@
 -- The check with counts that are claimed or with none (SPEC 3 and 7), as one function makes it for both.
 use Prim.Native.Nat.{ℕ, _/_}
 use mathlib.Core.List.{List}
+use Rattle.refusals.specs.Why.{why}
 use Rattle.majority.specs.If.{if_then_else_}
-use Rattle.majority.specs.Check.{Reply, refused, andThen, checkKinds}
+use Rattle.refusals.specs.Reply.{Reply, refused, andThen}
+use Rattle.majority.specs.Check.{checkKinds}
 use Rattle.majority.specs.declared.Record.{Record}
 use Rattle.majority.specs.declared.Counts.{Counts}
 use Rattle.tables.specs.declared.checking.Claim.{Claim}
@@ -22,4 +24,4 @@ checkUnder claim rs = andThen (checkKinds rs) (λ found. checkCounted (claimedOf
 
 -- the check of the first used bytes of xs with such a claim
 unfoldable pub checkUsed : List ℕ → ℕ → Claim → Reply Counts
-checkUsed xs used claim = if badLength xs used then refused 1 0 else checkUnder claim (tableOf xs (used / 8))
+checkUsed xs used claim = if badLength xs used then refused (why 1) else checkUnder claim (tableOf xs (used / 8))

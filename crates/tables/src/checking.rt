@@ -1,6 +1,5 @@
 // The check: one pass over the kinds, one over the fields.
 use crate::Checked;
-use crate::Refusal;
 use crate::fields::get;
 use crate::records::record_as;
 use crate::records::record_at;
@@ -12,11 +11,13 @@ use majority::MOST_INPUTS;
 use majority::MOST_OUTPUTS;
 use majority::OUTPUT;
 use majority::Record;
+use refusals::Refusal;
 ghost use mathlib.Core.Path.{_≡_};
 ghost use Prim.Native.Nat.{_+_, _-_, _*_, _≤_};
 ghost use lib.ListN.{length};
 ghost use Rattle.majority.specs.Seek.{firstFrom, first};
-ghost use Rattle.majority.specs.Check.{accepted, badCounts, notZero, past, badEdge, faultOf, faultyAt, checkFields, checkKinds};
+ghost use Rattle.refusals.specs.Reply.{accepted};
+ghost use Rattle.majority.specs.Check.{badCounts, notZero, past, badEdge, faultOf, faultyAt, checkFields, checkKinds};
 ghost use Rattle.tables.specs.Bytes.{tableOf};
 ghost use Rattle.tables.specs.Said.{faultNumber, saidCheck};
 ghost use Rattle.tables.specs.Runs.{runEnd, faultyAs};

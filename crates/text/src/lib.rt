@@ -8,7 +8,7 @@ ghost use Rattle.text.specs.Spelled.{spelled};
 use libc::STDERR_FILENO;
 use libc::STDIN_FILENO;
 use libc::STDOUT_FILENO;
-use tables::Refusal;
+use refusals::Refusal;
 
 // The most bytes that a line holds.
 pub const WIDTH: usize = 128;
@@ -149,7 +149,7 @@ pub fn print_too_long() {
 // Says which refusal a table met.
 pub fn print_refusal(r: Refusal) {
     Line::empty()
-        .refused(tables::refusal_number(r), tables::refusal_record(r))
+        .refused(refusals::refusal_number(r), refusals::refusal_record(r))
         .print();
 }
 

@@ -1,7 +1,7 @@
 -- `rm3::rm3_depth` meets its contract: the check's refusal, or the depth of the accepted table's translation.
 use mathlib.Core.Path.{sym, ap, _∙_}
 use borrow.Author.Needs.{needs}
-use Rattle.majority.specs.Check.{accepted}
+use Rattle.refusals.specs.Reply.{accepted}
 use Rattle.tables.specs.Said.{saidCheck}
 use Rattle.tables.proofs.After.{checked-sound, after-accepted, after-refused}
 use Rattle.rm3.specs.Calls.{depthIn, depthOf}

@@ -1,7 +1,7 @@
 -- `levels::size_after` meets its contract: a refusal stands, and the size is that of the accepted table.
 use borrow.Author.Needs.{needs}
 use mathlib.Core.Path.{refl, sym, ap, _∙_}
-use Rattle.majority.specs.Check.{accepted}
+use Rattle.refusals.specs.Reply.{accepted}
 use Rattle.questions.specs.Calls.{sizeOf}
 use Rattle.tables.specs.Sound.{tableIn}
 use Rattle.tables.specs.Said.{saidCheck}
