@@ -1,7 +1,7 @@
 -- The rules' edits of records in bytes (SPEC 5.3), for any bytes: g is the gate's node number, and n how many records the table has.
 use Prim.Native.Nat.{ℕ, _+_, _-_, _/_, _%_}
 use mathlib.Core.List.{List}
-use lib.Dec.{eqb, leb}
+use lib.Dec.{leb}
 use lib.ListN.{length}
 use Rattle.majority.specs.If.{if_then_else_}
 use Rattle.majority.specs.Edge.{flip}
@@ -9,6 +9,8 @@ use Rattle.majority.specs.Table.{gate}
 use Rattle.majority.specs.Edit.{edges, nodeRecord}
 use Rattle.rules.specs.Rules.{plain, named, exchanged, majorityEdge}
 use Rattle.majority.specs.declared.Record.{Record}
+use Rattle.rules.specs.declared.Rule.{Rule}
+use Rattle.rules.specs.declared.Rule.the-variants.{Exchange, Majority, Associativity, Outward, Inward, Inversion, Share, Sweep}
 use Rattle.tables.specs.Bytes.{recordsOf, putRecord}
 use Rattle.editing.specs.Edited.{redirectedFrom, insertedAt}
 
@@ -61,14 +63,13 @@ inversionIn xs n g = putRecord (redirectedFrom xs g n g (flip (plain16 g))) (g -
 unfoldable pub shareIn : List ℕ → ℕ → ℕ → ℕ → List ℕ
 shareIn xs n g a = redirectedFrom xs g n g (plain16 a)
 
--- the edit of rules 1 to 7; any other number changes nothing
-unfoldable pub editedBy : List ℕ → ℕ → ℕ → ℕ → ℕ → List ℕ
-editedBy xs n rule g a =
-    if eqb rule 1 then exchangedIn xs g a
-    else if eqb rule 2 then majorityIn xs n g
-    else if eqb rule 3 then associativityIn xs n g
-    else if eqb rule 4 then outwardIn xs n g
-    else if eqb rule 5 then inwardIn xs n g
-    else if eqb rule 6 then inversionIn xs n g
-    else if eqb rule 7 then shareIn xs n g a
-    else xs
+-- the edit of a rule; sweep is none, and changes nothing here
+unfoldable pub editedBy : List ℕ → ℕ → Rule → ℕ → ℕ → List ℕ
+editedBy xs n Exchange g a = exchangedIn xs g a
+editedBy xs n Majority g a = majorityIn xs n g
+editedBy xs n Associativity g a = associativityIn xs n g
+editedBy xs n Outward g a = outwardIn xs n g
+editedBy xs n Inward g a = inwardIn xs n g
+editedBy xs n Inversion g a = inversionIn xs n g
+editedBy xs n Share g a = shareIn xs n g a
+editedBy xs n Sweep g a = xs

@@ -6,13 +6,7 @@ use editing::insert;
 use editing::redirect;
 use majority::Record;
 use majority::flipped;
-use rules::ASSOCIATIVITY;
-use rules::EXCHANGE;
-use rules::INVERSION;
-use rules::INWARD;
-use rules::MAJORITY;
-use rules::OUTWARD;
-use rules::SHARE;
+use rules::Rule;
 use rules::associativity_gate;
 use rules::associativity_new;
 use rules::exchanged;
@@ -113,36 +107,18 @@ fn share(s: &mut [u8], n: usize, gate: u16, a: u16)
     redirect(s, gate as usize, n, gate, plain(a));
 }
 
-// Edits by a rule from 1 to 7; any other number changes nothing.
-pub fn edit(s: &mut [u8], n: usize, rule: u16, gate: u16, a: u16)
+// Edits by a rule. Sweep is no edit, and changes nothing here.
+pub fn edit(s: &mut [u8], n: usize, rule: Rule, gate: u16, a: u16)
     ensures { λ _. ⌜ now (s .exit) ≡ editedBy (now (s .entry)) n rule gate a ⌝ }
 {
-    if rule == EXCHANGE {
-        exchange(s, gate, a);
-        return;
-    }
-    if rule == MAJORITY {
-        majority_rule(s, n, gate);
-        return;
-    }
-    if rule == ASSOCIATIVITY {
-        associativity(s, n, gate);
-        return;
-    }
-    if rule == OUTWARD {
-        outward(s, n, gate);
-        return;
-    }
-    if rule == INWARD {
-        inward(s, n, gate);
-        return;
-    }
-    if rule == INVERSION {
-        inversion(s, n, gate);
-        return;
-    }
-    if rule == SHARE {
-        share(s, n, gate, a);
-        return;
+    match rule {
+        Rule::Exchange => exchange(s, gate, a),
+        Rule::Majority => majority_rule(s, n, gate),
+        Rule::Associativity => associativity(s, n, gate),
+        Rule::Outward => outward(s, n, gate),
+        Rule::Inward => inward(s, n, gate),
+        Rule::Inversion => inversion(s, n, gate),
+        Rule::Share => share(s, n, gate, a),
+        Rule::Sweep => {}
     }
 }

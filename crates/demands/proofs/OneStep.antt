@@ -11,7 +11,8 @@ use Rattle.majority.specs.Table.{blank}
 use Rattle.rules.specs.Kept.{Kept}
 use Rattle.refusals.specs.Reply.{Reply, accepted, refused, andThen}
 use Rattle.majority.specs.Check.{counts, checkRecords, count}
-use Rattle.rules.specs.Step.{step, deepens}
+use Rattle.rules.specs.Step.{step, deepensBy}
+use Rattle.rules.specs.declared.Step.{Step}
 use Rattle.majority.specs.declared.Record.{Record}
 use Rattle.majority.proofs.Accepted.{Accepted, acceptance, accepts}
 use Rattle.rules.proofs.Kept.{kept-same}
@@ -23,7 +24,6 @@ use Rattle.tables.proofs.Encoded.{accepted-records}
 use Rattle.editing.proofs.Held.{length-encode, encoded-at}
 use Rattle.rewriting.specs.Applied.{stored, afterReply}
 use Rattle.rewriting.specs.Calls.{stepTable, stepOf, stepBytes}
-use Rattle.rewriting.specs.Script.{replyTo, bytesAfter}
 
 -- from the buffer xs, whose table has m gates, to the buffer ys: ys holds an accepted table, and depth has risen by at most δ
 pub record Between (δ n m o : ℕ) (xs : List ℕ) (used : ℕ) (ys : List ℕ) (end : ℕ) : Type 0 where
@@ -54,9 +54,9 @@ module _ (t : List Record) (used : ℕ) (xs : List ℕ) where
       let l : 8 * length t ≤ length (stored t used xs) = omega (arith, stored-length h fits) in
       rw (eq-eqb _ _ e, le-ltb _ _ l, last-table)
 
--- the table that the step r makes of that of n inputs and m gates in xs, or the refusal
-abbrev outcome : List ℕ → ℕ → ℕ → ℕ → Record → Reply (List Record)
-outcome xs used n m r = step (length xs) n m (tableOf xs (used / 8)) (r .kind) (r .e1) (r .e2) (r .e3)
+-- the table that the step s makes of that of n inputs and m gates in xs, or the refusal
+abbrev outcome : List ℕ → ℕ → ℕ → ℕ → Step → Reply (List Record)
+outcome xs used n m s = step (length xs) n m (tableOf xs (used / 8)) s
 
 module _ (xs : List ℕ) (used n m o : ℕ) (is : checkOf xs used ≡ accepted (counts n m o)) where
   was : Accepted n m o (tableOf xs (used / 8))
@@ -66,34 +66,34 @@ module _ (xs : List ℕ) (used n m o : ℕ) (is : checkOf xs used ≡ accepted (
   pub between-same : Between 0 n m o xs used xs used
   between-same = record { gates = m; holds = is; kept = kept-same (was .formed) }
 
-  module _ (r : Record) where
-    table-is : stepTable xs used (r .kind) (r .e1) (r .e2) (r .e3) ≡ outcome xs used n m r
+  module _ (s : Step) where
+    table-is : stepTable xs used s ≡ outcome xs used n m s
     unfolding stepTable
     table-is = rw is
 
-    reply-is : replyTo xs used r ≡ andThen (outcome xs used n m r) (λ t. accepted (8 * length t))
+    reply-is : stepOf xs used s ≡ andThen (outcome xs used n m s) (λ t. accepted (8 * length t))
     unfolding stepOf
     reply-is = rw table-is
 
-    bytes-are : bytesAfter xs used r ≡ afterReply (outcome xs used n m r) used xs
+    bytes-are : stepBytes xs used s ≡ afterReply (outcome xs used n m s) used xs
     unfolding stepBytes
     bytes-are = rw table-is
 
-    stored-between : (t : List Record) → outcome xs used n m r ≡ accepted t → Between (deepens (r .kind)) n m o xs used (stored t used xs) (8 * length t)
+    stored-between : (t : List Record) → outcome xs used n m s ≡ accepted t → Between (deepensBy s) n m o xs used (stored t used xs) (8 * length t)
     stored-between t e =
         let h : used ≤ length xs = accepted-records xs used _ is .1 in
-        let fits : 8 * length t ≤ length xs = step-fits (was .formed) _ _ _ _ _ t e in
+        let fits : 8 * length t ≤ length xs = step-fits (was .formed) _ _ t e in
         record {
           gates = count 2 t;
-          holds = stored-check t used xs h fits ∙ accepts n (count 2 t) o t (step-accepted was _ _ _ _ _ t e);
-          kept = rw (last-table t used xs) (step-kept (was .formed) _ _ _ _ _ t e);
+          holds = stored-check t used xs h fits ∙ accepts n (count 2 t) o t (step-accepted was _ _ t e);
+          kept = rw (last-table t used xs) (step-kept (was .formed) _ _ t e);
         }
 
     -- a step that is accepted
-    pub between-step : (next : ℕ) → replyTo xs used r ≡ accepted next → Between (deepens (r .kind)) n m o xs used (bytesAfter xs used r) next
-    between-step next e = go (outcome xs used n m r) refl
+    pub between-step : (next : ℕ) → stepOf xs used s ≡ accepted next → Between (deepensBy s) n m o xs used (stepBytes xs used s) next
+    between-step next e = go (outcome xs used n m s) refl
       where
-        go : (reply : Reply (List Record)) → outcome xs used n m r ≡ reply → Between (deepens (r .kind)) n m o xs used (bytesAfter xs used r) next
+        go : (reply : Reply (List Record)) → outcome xs used n m s ≡ reply → Between (deepensBy s) n m o xs used (stepBytes xs used s) next
         go (accepted t) is′ =
             let same : 8 * length t ≡ next = let p : accepted (8 * length t) ≡ accepted next = sym (reply-is ∙ rw is′) ∙ e in cc in
             rw (bytes-are, is′, ← same) (stored-between t is′)
@@ -103,9 +103,9 @@ module _ (xs : List ℕ) (used n m o : ℕ) (is : checkOf xs used ≡ accepted (
             absurd (omega arith)
 
 -- a step that is refused leaves every byte, as a script that stops there has it
-pub refused-step : (xs : List ℕ) (used : ℕ) (r : Record) (w : Why) → replyTo xs used r ≡ refused w → bytesAfter xs used r ≡ xs
+pub refused-step : (xs : List ℕ) (used : ℕ) (s : Step) (w : Why) → stepOf xs used s ≡ refused w → stepBytes xs used s ≡ xs
 unfolding stepOf stepBytes
-refused-step xs used r w e = go (stepTable xs used (r .kind) (r .e1) (r .e2) (r .e3)) e
+refused-step xs used s w e = go (stepTable xs used s) e
   where
     go : (reply : Reply (List Record)) → andThen reply (λ t. accepted (8 * length t)) ≡ refused w → afterReply reply used xs ≡ xs
     go (accepted t) p = let z : _≡_ {A = ℕ} 0 1 = cc in absurd (omega arith)

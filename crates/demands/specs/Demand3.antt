@@ -9,7 +9,8 @@ use Rattle.majority.specs.Level.{depth}
 use Rattle.refusals.specs.Reply.{accepted}
 use Rattle.majority.specs.Check.{counts}
 use Rattle.majority.specs.Edit.{nodeRecord}
-use Rattle.rules.specs.Step.{deepens}
+use Rattle.rules.specs.Step.{deepensBy}
+use Rattle.rules.specs.declared.Step.{Step}
 use Rattle.translation.specs.Rm3.{WellFormed3, outputValue3, depth3}
 use Rattle.majority.specs.declared.Record.{Record}
 use Rattle.tables.specs.Bytes.{tableOf}
@@ -18,9 +19,9 @@ use Rattle.rewriting.specs.Script.{Run, stepsOf, scriptRun}
 use Rattle.rm3.specs.Calls.{rm3Of}
 
 -- how many of these steps are of associativity or distributivity, rules 3, 4 and 5
-unfoldable pub deepening : List Record → ℕ
+unfoldable pub deepening : List Step → ℕ
 deepening [] = 0
-deepening (r ∷ rs) = deepens (r .kind) + deepening rs
+deepening (s ∷ steps) = deepensBy s + deepening steps
 
 -- how many of them a script took: it took the first `taken` of its steps
 abbrev pub deepeningTaken : List ℕ → Run → ℕ

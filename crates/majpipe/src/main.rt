@@ -14,6 +14,7 @@ use reply::Reply;
 use rewriting::Ending;
 use rewriting::Stepped;
 use rm3::Translated;
+use rules::Step;
 use tables::Checked;
 use text::Line;
 
@@ -105,15 +106,13 @@ fn step(table: &mut [u8], used: usize) -> Outcome {
     let Word::Number(a_b) = input::read_number() else {
         return Outcome::Cut;
     };
-    let stepped = rewriting::step(
-        table,
-        used,
-        low_half(rule_gate),
-        high_half(rule_gate),
-        low_half(a_b),
-        high_half(a_b),
-    );
-    match stepped {
+    let step = Step {
+        rule: low_half(rule_gate),
+        gate: high_half(rule_gate),
+        a: low_half(a_b),
+        b: high_half(a_b),
+    };
+    match rewriting::step(table, used, step) {
         Stepped::Used(n) => sent_with(Reply::accepted().number(n), table),
         Stepped::Refused(r) => sent_with(Reply::refused(r).number(0), table),
     }

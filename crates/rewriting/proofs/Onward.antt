@@ -8,6 +8,7 @@ use lib.Seq.{ext-getD}
 use Rattle.majority.specs.Table.{blank}
 use Rattle.refusals.specs.Reply.{Reply, accepted, refused, andThen}
 use Rattle.majority.specs.Check.{count}
+use Rattle.rules.specs.declared.Step.{Step}
 use Rattle.majority.specs.declared.Record.{Record}
 use Rattle.majority.specs.declared.Counts.{Counts}
 use Rattle.majority.proofs.Accepted.{accepts}
@@ -33,28 +34,28 @@ module _ (t : List Record) (used : ℕ) (xs : List ℕ) where
       ext-getD blank _ _ (length-table _ (length t))
       (λ j h. let l : j < length t = omega (arith, length-table (stored t used xs) (length t)) in table-at _ (length t) j l ∙ encoded-at t _ j l)
 
-module _ {xs : List ℕ} {c : Counts} (sound : Sound xs c) (rule g a b used : ℕ) (taken : stepOf xs (usedBy c) rule g a b ≡ accepted used) where
+module _ {xs : List ℕ} {c : Counts} (sound : Sound xs c) (s : Step) (used : ℕ) (taken : stepOf xs (usedBy c) s ≡ accepted used) where
   pub record Onward : Type 0 where
-    pub next : Sound (stepBytes xs (usedBy c) rule g a b) (countsAt c used)
+    pub next : Sound (stepBytes xs (usedBy c) s) (countsAt c used)
     pub length-is : usedBy (countsAt c used) ≡ used
 
   pub onward : Onward
   unfolding stepOf stepBytes
-  onward = go (stepIn xs c rule g a b) refl (sym (rw (table-same sound rule g a b)) ∙ taken)
+  onward = go (stepIn xs c s) refl (sym (rw (table-same sound s)) ∙ taken)
     where
-      go : (r : Reply (List Record)) → stepIn xs c rule g a b ≡ r → andThen r (λ t. accepted (8 * length t)) ≡ accepted used → Onward
+      go : (r : Reply (List Record)) → stepIn xs c s ≡ r → andThen r (λ t. accepted (8 * length t)) ≡ accepted used → Onward
       go (refused w) is e = let z : _≡_ {A = ℕ} 0 1 = cc in absurd (omega arith)
       go (accepted t) is e =
           let len : 8 * length t ≡ used = cc in
           let was = sound-accepted sound in
-          let now = step-accepted was (length xs) rule g a b t is in
+          let now = step-accepted was (length xs) s t is in
           let whole : length t ≡ c .inputs + count 2 t + c .outputs = now .formed .whole in
           let gates : used / 8 - c .inputs - c .outputs ≡ count 2 t = omega arith in
           let all : c .inputs + (used / 8 - c .inputs - c .outputs) + c .outputs ≡ length t = omega arith in
-          let room = step-fits (was .formed) (length xs) rule g a b t is in
+          let room = step-fits (was .formed) (length xs) s t is in
           let long = stored-length t (usedBy c) xs (sound .fits) room in
           record {
-            next = rw (table-same sound rule g a b, is)
+            next = rw (table-same sound s, is)
                 (record {
                   fits = omega arith;
                   sound = rw (all, stored-table t (usedBy c) xs, gates) (accepts (c .inputs) (count 2 t) (c .outputs) t now);
@@ -63,10 +64,10 @@ module _ {xs : List ℕ} {c : Counts} (sound : Sound xs c) (rule g a b used : �
           }
 
 -- a step keeps the buffer's length
-pub step-length : {xs : List ℕ} {c : Counts} → Sound xs c → (rule g a b : ℕ) → length (stepBytes xs (usedBy c) rule g a b) ≡ length xs
+pub step-length : {xs : List ℕ} {c : Counts} → Sound xs c → (s : Step) → length (stepBytes xs (usedBy c) s) ≡ length xs
 unfolding stepBytes
-step-length {xs} {c} sound rule g a b = rw (table-same sound rule g a b) (go (stepIn xs c rule g a b) refl)
+step-length {xs} {c} sound s = rw (table-same sound s) (go (stepIn xs c s) refl)
   where
-    go : (r : Reply (List Record)) → stepIn xs c rule g a b ≡ r → length (afterReply r (usedBy c) xs) ≡ length xs
+    go : (r : Reply (List Record)) → stepIn xs c s ≡ r → length (afterReply r (usedBy c) xs) ≡ length xs
     go (refused w) is = refl
-    go (accepted t) is = stored-length t (usedBy c) xs (sound .fits) (step-fits (sound-accepted sound .formed) (length xs) rule g a b t is)
+    go (accepted t) is = stored-length t (usedBy c) xs (sound .fits) (step-fits (sound-accepted sound .formed) (length xs) s t is)

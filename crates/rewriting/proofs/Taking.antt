@@ -1,25 +1,28 @@
 -- A step on a table that was checked: what it replies and leaves, refused or taken.
 use Prim.Native.Nat.{ℕ, _+_, _-_, _*_, _≤_, _<_}
 use mathlib.Core.Path.{_≡_, refl, sym, ap, _∙_}
-use mathlib.Core.Bool.{Bool, true, false, _||_}
+use mathlib.Core.Bool.{true, false}
 use mathlib.Core.List.{List}
 use native.Mathlib.Omega.{arith}
-use borrow.Author.Tests.{ne-eqb, lt-ltb, le-ltb}
-use lib.Dec.{eqb}
+use borrow.Author.Tests.{lt-ltb, le-ltb}
 use lib.ListN.{length}
-use Rattle.majority.specs.If.{if_then_else_}
 use Rattle.majority.specs.Table.{WellFormed}
-use Rattle.refusals.specs.Reply.{accepted, refused}
+use Rattle.refusals.specs.Reply.{Reply, accepted, refused}
 use Rattle.majority.specs.Check.{count}
 use Rattle.rules.specs.Sweep.{sweep}
-use Rattle.rules.specs.Step.{badRule, fieldsFit, hasForm, inserted, rewritten, step}
+use Rattle.rules.specs.Step.{ruleOf, saidRule, isSweep, fieldsFit, hasForm, inserted, rewritten, stepBy, step}
+use Rattle.rules.specs.declared.Rule.{Rule}
+use Rattle.rules.specs.declared.Rule.the-variants.{Exchange, Majority, Associativity, Outward, Inward, Inversion, Share, Sweep}
+use Rattle.rules.specs.declared.Step.{Step}
+use Rattle.rules.specs.declared.Named.{Named}
+use Rattle.rules.specs.declared.Named.the-variants.{Known, Unknown}
 use Rattle.majority.specs.declared.Record.{Record}
 use Rattle.majority.specs.declared.Counts.{Counts}
-use Rattle.rules.proofs.Taken.{taken-step}
+use Rattle.rules.proofs.Taken.{Taken, taken-step}
 use Rattle.majority.proofs.Order.{order-counts}
 use Rattle.majority.proofs.Accepted.{order-of}
 use Rattle.rules.proofs.Sweep.{left-fewer, sweep-kept}
-use Rattle.rules.proofs.Steps.{gatesAfter, step-count, step-kept}
+use Rattle.rules.proofs.Steps.{gatesAfter, taken-count, taken-kept}
 use Rattle.tables.specs.Sound.{Sound, tableIn}
 use Rattle.refusals.specs.Why.{why, whyOf}
 use Rattle.refusals.specs.declared.Refusal.{Refusal}
@@ -28,11 +31,11 @@ use Rattle.tables.proofs.Sound.{sound-accepted}
 use Rattle.editing.specs.Edited.{holding}
 use Rattle.rewriting.specs.Ready.{Fitting}
 use Rattle.rewriting.specs.Swept.{Swept}
-use Rattle.rewriting.specs.Applied.{usedBy, Rewritten, stepIn, AppliedTo}
+use Rattle.rewriting.specs.Applied.{usedBy, Rewritten, ruleIn, stepIn, AppliedTo}
 use Rattle.rewriting.specs.declared.Applied.the-variants.{Taken as AppliedTaken, Refused as AppliedRefused}
 use Rattle.rewriting.proofs.Storing.{stored-long, stored-short}
 
-module _ {xs : List ℕ} {c : Counts} {rule g a b : ℕ} (fit : Fitting xs c rule g a b) where
+module _ {xs : List ℕ} {c : Counts} {rule : Rule} {g a b : ℕ} (fit : Fitting xs c rule g a b) where
   abbrev table : List Record
   table = tableIn xs c
 
@@ -40,31 +43,31 @@ module _ {xs : List ℕ} {c : Counts} {rule g a b : ℕ} (fit : Fitting xs c rul
   after = rewritten table rule g a
 
   -- the step is taken
-  fit-step : stepIn xs c rule g a b ≡ accepted after
-  fit-step =
-      taken-step (length xs) (c .inputs) (c .gates) table rule g a b after
-      (record {
-        known = fit .known;
-        fields = fit .fields;
-        form = fit .form;
-        few = fit .few;
-        room = rw (length-table xs (c .inputs + c .gates + c .outputs)) (fit .room);
-        result = refl;
-      })
+  fit-taken : Taken (length xs) (c .inputs) (c .gates) table rule g a b after
+  fit-taken = record {
+    fields = fit .fields;
+    form = fit .form;
+    few = fit .few;
+    room = rw (length-table xs (c .inputs + c .gates + c .outputs)) (fit .room);
+    result = refl;
+  }
+
+  fit-step : ruleIn xs c rule g a b ≡ accepted after
+  fit-step = taken-step (length xs) (c .inputs) (c .gates) table rule g a b after fit-taken
 
   formed : WellFormed (c .inputs) (c .gates) (c .outputs) table
   formed = sound-accepted (fit .sound) .formed
 
   fit-count : count 2 after ≡ gatesAfter (c .inputs) (c .gates) table rule
-  fit-count = step-count formed (length xs) rule g a b after fit-step
+  fit-count = taken-count formed fit-taken
 
   fit-length : length after ≡ c .inputs + count 2 after + c .outputs
-  fit-length = step-kept formed (length xs) rule g a b after fit-step .formed .whole
+  fit-length = taken-kept formed fit-taken .formed .whole
 
   -- by a rule other than sweep
-  pub rewritten-held : {ys : List ℕ} (r : ℕ) → (rule ≡ 8 → ⊥) → r ≡ c .gates + inserted rule → ys ≡ holding after xs → Rewritten xs c rule g a r ys
+  pub rewritten-held : {ys : List ℕ} (r : ℕ) → isSweep rule ≡ false → r ≡ c .gates + inserted rule → ys ≡ holding after xs → Rewritten xs c rule g a r ys
   rewritten-held r other gates held =
-      let more : count 2 after ≡ c .gates + inserted rule = fit-count ∙ rw (ne-eqb rule 8 other) in
+      let more : count 2 after ≡ c .gates + inserted rule = fit-count ∙ rw other in
       record {
         gates = gates ∙ sym more;
         bytes = held ∙ sym (stored-long after (usedBy c) xs (omega (arith, fit-length)));
@@ -79,11 +82,21 @@ module _ {xs : List ℕ} {c : Counts} {rule g a b : ℕ} (fit : Fitting xs c rul
         bytes = swept .bytes ∙ rw (← is) (sym (stored-short after (c .gates - r) (usedBy c) xs (omega (arith, fit-length))));
       }
 
-  pub applied-taken : {ys : List ℕ} (r : ℕ) → Rewritten xs c rule g a r ys → AppliedTo xs c rule g a b (AppliedTaken r) ys
+  pub applied-taken : {ys : List ℕ} (r : ℕ) → Rewritten xs c rule g a r ys → AppliedTo xs c (ruleIn xs c rule g a b) (AppliedTaken r) ys
   applied-taken r done = record { reply = rw fit-step (ap accepted (done .gates)); bytes = rw fit-step (done .bytes) }
 
-pub applied-refused : {xs : List ℕ} {c : Counts} {rule g a b : ℕ} (r : Refusal) → stepIn xs c rule g a b ≡ refused (whyOf r) → AppliedTo xs c rule g a b (AppliedRefused r) xs
+pub applied-refused : {xs : List ℕ} {c : Counts} {made : Reply (List Record)} (r : Refusal) → made ≡ refused (whyOf r) → AppliedTo xs c made (AppliedRefused r) xs
 applied-refused r e = record { reply = rw e; bytes = rw e }
+
+-- a step is one of the rule that has its number
+module _ (xs : List ℕ) (c : Counts) (s : Step) (r : Named) (said : saidRule r ≡ ruleOf (s .rule)) where
+  pub known-step : (rule : Rule) → r ≡ Known rule → stepIn xs c s ≡ ruleIn xs c rule (s .gate) (s .a) (s .b)
+  unfolding step
+  known-step rule is = rw (← said, is)
+
+  pub unknown-step : r ≡ Unknown → stepIn xs c s ≡ refused (why 7)
+  unfolding step
+  unknown-step is = rw (← said, is)
 
 -- sweep leaves no more gates than there were
 pub swept-fewer : {xs ys : List ℕ} {c : Counts} {r : ℕ} → Sound xs c → Swept xs c r ys → r ≤ c .gates
@@ -93,36 +106,33 @@ swept-fewer {xs} {c = c} sound swept =
     let counted = order-counts (sweep (tableIn xs c)) _ _ _ (kept .whole) (order-of _ _ _ _ kept) .1 in
     omega (arith, swept .left, counted, left-fewer formed)
 
--- the refusals of a step, in their order
-module _ (bytes n m : ℕ) (rs : List Record) (rule g a b : ℕ) where
-  pub refuse-7 : badRule rule ≡ true → step bytes n m rs rule g a b ≡ refused (why 7)
-  unfolding step
-  refuse-7 h = rw h
+-- the refusals of a step of a rule, in their order
+module _ (bytes n m : ℕ) (rs : List Record) (rule : Rule) (g a b : ℕ) where
+  pub refuse-8 : fieldsFit n m rule g a b ≡ false → stepBy bytes n m rs rule g a b ≡ refused (why 8)
+  unfolding stepBy
+  refuse-8 h = rw h
 
-  module _ (known : badRule rule ≡ false) where
-    pub refuse-8 : fieldsFit n m rule g a b ≡ false → step bytes n m rs rule g a b ≡ refused (why 8)
-    unfolding step
-    refuse-8 h = rw (known, h)
+  module _ (fields : fieldsFit n m rule g a b ≡ true) where
+    pub refuse-9 : hasForm n rs rule g a ≡ false → stepBy bytes n m rs rule g a b ≡ refused (why 9)
+    unfolding stepBy
+    refuse-9 h = rw (fields, h)
 
-    module _ (fields : fieldsFit n m rule g a b ≡ true) where
-      pub refuse-9 : hasForm n rs rule g a ≡ false → step bytes n m rs rule g a b ≡ refused (why 9)
-      unfolding step
-      refuse-9 h = rw (known, fields, h)
+    module _ (form : hasForm n rs rule g a ≡ true) where
+      pub refuse-10 : 1024 < m + inserted rule → stepBy bytes n m rs rule g a b ≡ refused (why 10)
+      unfolding stepBy
+      refuse-10 h = rw (fields, form, lt-ltb 1024 (m + inserted rule) h)
 
-      module _ (form : hasForm n rs rule g a ≡ true) where
-        pub refuse-10 : 1024 < m + inserted rule → step bytes n m rs rule g a b ≡ refused (why 10)
-        unfolding step
-        refuse-10 h = rw (known, fields, form, lt-ltb 1024 (m + inserted rule) h)
-
-        pub refuse-11 : m + inserted rule ≤ 1024 → bytes < 8 * (length rs + inserted rule) → step bytes n m rs rule g a b ≡ refused (why 11)
-        unfolding step
-        refuse-11 few h = rw (known, fields, form, le-ltb 1024 (m + inserted rule) few, lt-ltb bytes (8 * (length rs + inserted rule)) h)
+      pub refuse-11 : m + inserted rule ≤ 1024 → bytes < 8 * (length rs + inserted rule) → stepBy bytes n m rs rule g a b ≡ refused (why 11)
+      unfolding stepBy
+      refuse-11 few h = rw (fields, form, le-ltb 1024 (m + inserted rule) few, lt-ltb bytes (8 * (length rs + inserted rule)) h)
 
 -- a rule inserts at most two gates
-pub few-more : (rule : ℕ) → inserted rule ≤ 2
-few-more rule = go (eqb rule 4) (eqb rule 3 || eqb rule 5)
-  where
-    go : (s t : Bool) → (if s then 2 else if t then 1 else 0) ≤ 2
-    go true t = omega arith
-    go false true = omega arith
-    go false false = omega arith
+pub few-more : (rule : Rule) → inserted rule ≤ 2
+few-more Exchange = omega arith
+few-more Majority = omega arith
+few-more Associativity = omega arith
+few-more Outward = omega arith
+few-more Inward = omega arith
+few-more Inversion = omega arith
+few-more Share = omega arith
+few-more Sweep = omega arith

@@ -4,6 +4,7 @@ use mathlib.Core.List.{List}
 use lib.ListN.{length}
 use Rattle.refusals.specs.Reply.{Reply, accepted, refused, andThen}
 use Rattle.rules.specs.Step.{step}
+use Rattle.rules.specs.declared.Step.{Step}
 use Rattle.majority.specs.declared.Record.{Record}
 use Rattle.tables.specs.Bytes.{tableOf}
 use Rattle.tables.specs.Calls.{checkOf}
@@ -13,15 +14,15 @@ use Rattle.rewriting.specs.declared.Stepped.{Stepped}
 use Rattle.rewriting.specs.declared.Stepped.the-variants.{Used, Refused}
 
 -- the table that a step makes of the one in the first `used` bytes of xs, or the refusal
-unfoldable pub stepTable : List ℕ → ℕ → ℕ → ℕ → ℕ → ℕ → Reply (List Record)
-stepTable xs used rule g a b = andThen (checkOf xs used) (λ c. step (length xs) (c .inputs) (c .gates) (tableOf xs (used / 8)) rule g a b)
+unfoldable pub stepTable : List ℕ → ℕ → Step → Reply (List Record)
+stepTable xs used s = andThen (checkOf xs used) (λ c. step (length xs) (c .inputs) (c .gates) (tableOf xs (used / 8)) s)
 
 -- the reply: the new used length
-unfoldable pub stepOf : List ℕ → ℕ → ℕ → ℕ → ℕ → ℕ → Reply ℕ
-stepOf xs used rule g a b = andThen (stepTable xs used rule g a b) (λ t. accepted (8 * length t))
+unfoldable pub stepOf : List ℕ → ℕ → Step → Reply ℕ
+stepOf xs used s = andThen (stepTable xs used s) (λ t. accepted (8 * length t))
 
-unfoldable pub stepBytes : List ℕ → ℕ → ℕ → ℕ → ℕ → ℕ → List ℕ
-stepBytes xs used rule g a b = afterReply (stepTable xs used rule g a b) used xs
+unfoldable pub stepBytes : List ℕ → ℕ → Step → List ℕ
+stepBytes xs used s = afterReply (stepTable xs used s) used xs
 
 -- the reply of each case of the enum
 abbrev pub saidStep : Stepped → Reply ℕ

@@ -1,21 +1,23 @@
 -- What an accepted step keeps, whatever its rule, and that its table stays within the gates' limit and the buffer.
-use Prim.Native.Nat.{ℕ, zero, suc, _+_, _*_, _≤_}
+use Prim.Native.Nat.{ℕ, _+_, _*_, _≤_}
 use mathlib.Core.Path.{_≡_, refl}
 use mathlib.Core.Bool.{Bool, true, false}
 use mathlib.Core.List.{List}
 use native.Mathlib.Omega.{arith}
 use native.Mathlib.Nat.{add-zero}
-use lib.Dec.{eqb}
 use lib.ListN.{length}
+use Rattle.refusals.specs.Reply.{accepted}
 use Rattle.majority.specs.If.{if_then_else_}
 use Rattle.majority.specs.Table.{WellFormed}
-use Rattle.refusals.specs.Reply.{accepted}
 use Rattle.majority.specs.Check.{count}
-use Rattle.rules.specs.Step.{fieldsFit, hasForm, inserted, rewritten, step, deepens}
-use Rattle.rules.specs.Kept.{Kept}
 use Rattle.majority.specs.declared.Record.{Record}
 use Rattle.majority.proofs.Order.{order-counts}
 use Rattle.majority.proofs.Accepted.{Accepted, order-of}
+use Rattle.rules.specs.Kept.{Kept}
+use Rattle.rules.specs.Step.{isSweep, fieldsFit, hasForm, inserted, rewritten, step, deepens, deepensBy}
+use Rattle.rules.specs.declared.Step.{Step}
+use Rattle.rules.specs.declared.Rule.{Rule}
+use Rattle.rules.specs.declared.Rule.the-variants.{Exchange, Majority, Associativity, Outward, Inward, Inversion, Share, Sweep}
 use Rattle.rules.proofs.GateNodes.{GateOf}
 use Rattle.rules.proofs.Exchange.{exchange-kept}
 use Rattle.rules.proofs.MajorityShare.{majority-kept, share-kept}
@@ -24,35 +26,33 @@ use Rattle.rules.proofs.Outward.{outward-kept}
 use Rattle.rules.proofs.Inward.{inward-kept}
 use Rattle.rules.proofs.Inversion.{inversion-kept}
 use Rattle.rules.proofs.Sweep.{left, left-fewer, sweep-kept}
-use Rattle.rules.proofs.Taken.{Taken, step-taken, known-rule, gate-field, share-field}
+use Rattle.rules.proofs.Taken.{Taken, Ruled, ruled, gate-field, share-field}
 
 -- how many gates a step of this rule leaves, of m
-abbrev pub gatesAfter : ℕ → ℕ → List Record → ℕ → ℕ
-gatesAfter n m rs rule = if eqb rule 8 then left n m rs else m + inserted rule
+abbrev pub gatesAfter : ℕ → ℕ → List Record → Rule → ℕ
+gatesAfter n m rs rule = if isSweep rule then left n m rs else m + inserted rule
 
 module _ {n m o : ℕ} {rs : List Record} (formed : WellFormed n m o rs) (g a b : ℕ) where
-  gate-of : (rule : ℕ) → eqb rule 8 ≡ false → fieldsFit n m rule g a b ≡ true → GateOf n m o g rs
-  gate-of rule other fields = let w = gate-field n m rule g a b other fields in record { formed = formed; from = w .0; upto = w .1 }
+  gate-of : (rule : Rule) → isSweep rule ≡ false → fieldsFit n m rule g a b ≡ true → GateOf n m o g rs
+  gate-of rule other fields = let w = gate-field n m g a b rule other fields in record { formed = formed; from = w .0; upto = w .1 }
 
   -- the eight rules, one after another
-  by-rule : (rule : ℕ) → 1 ≤ rule → rule ≤ 8 → fieldsFit n m rule g a b ≡ true → hasForm n rs rule g a ≡ true
+  by-rule : (rule : Rule) → fieldsFit n m rule g a b ≡ true → hasForm n rs rule g a ≡ true
       → Kept (deepens rule) n m (gatesAfter n m rs rule) o rs (rewritten rs rule g a)
   unfolding hasForm rewritten
-  by-rule zero low high fields form = absurd (omega arith)
-  by-rule (suc zero) low high fields form = rw (add-zero m) (exchange-kept (gate-of 1 refl fields) a)
-  by-rule (suc (suc zero)) low high fields form = rw (add-zero m) (majority-kept (gate-of 2 refl fields) form)
-  by-rule (suc (suc (suc zero))) low high fields form = associativity-kept (gate-of 3 refl fields) form
-  by-rule (suc (suc (suc (suc zero)))) low high fields form = outward-kept (gate-of 4 refl fields) form
-  by-rule (suc (suc (suc (suc (suc zero))))) low high fields form = inward-kept (gate-of 5 refl fields) form
-  by-rule (suc (suc (suc (suc (suc (suc zero)))))) low high fields form = rw (add-zero m) (inversion-kept (gate-of 6 refl fields))
-  by-rule (suc (suc (suc (suc (suc (suc (suc zero))))))) low high fields form =
+  by-rule Exchange fields form = rw (add-zero m) (exchange-kept (gate-of Exchange refl fields) a)
+  by-rule Majority fields form = rw (add-zero m) (majority-kept (gate-of Majority refl fields) form)
+  by-rule Associativity fields form = associativity-kept (gate-of Associativity refl fields) form
+  by-rule Outward fields form = outward-kept (gate-of Outward refl fields) form
+  by-rule Inward fields form = inward-kept (gate-of Inward refl fields) form
+  by-rule Inversion fields form = rw (add-zero m) (inversion-kept (gate-of Inversion refl fields))
+  by-rule Share fields form =
       let w = share-field n m g a b fields in
-      rw (add-zero m) (share-kept (gate-of 7 refl fields) a (w .0) (w .1) form)
-  by-rule (suc (suc (suc (suc (suc (suc (suc (suc zero)))))))) low high fields form = sweep-kept formed
-  by-rule (suc (suc (suc (suc (suc (suc (suc (suc (suc rule))))))))) low high fields form = absurd (omega arith)
+      rw (add-zero m) (share-kept (gate-of Share refl fields) a (w .0) (w .1) form)
+  by-rule Sweep fields form = sweep-kept formed
 
-few-gates : {n m o : ℕ} {rs : List Record} → WellFormed n m o rs → (rule : ℕ) → gatesAfter n m rs rule ≤ m + inserted rule
-few-gates {n} {m} {rs = rs} formed rule = go (eqb rule 8)
+few-gates : {n m o : ℕ} {rs : List Record} → WellFormed n m o rs → (rule : Rule) → gatesAfter n m rs rule ≤ m + inserted rule
+few-gates {n} {m} {rs = rs} formed rule = go (isSweep rule)
   where
     go : (t : Bool) → (if t then left n m rs else m + inserted rule) ≤ m + inserted rule
     go true = omega (arith, left-fewer formed)
@@ -62,31 +62,42 @@ few-gates {n} {m} {rs = rs} formed rule = go (eqb rule 8)
 gates-counted : {n m o : ℕ} {rs : List Record} → WellFormed n m o rs → count 2 rs ≡ m
 gates-counted {n} {m} {o} {rs} formed = order-counts rs n m o (formed .whole) (order-of n m o rs formed) .1
 
-module _ {n m o : ℕ} {rs : List Record} (formed : WellFormed n m o rs) (bytes rule g a b : ℕ) (rs′ : List Record) (e : step bytes n m rs rule g a b ≡ accepted rs′) where
-  taken : Taken bytes n m rs rule g a b rs′
-  taken = step-taken bytes n m rs rule g a b rs′ e
-
+-- of a known rule
+module _ {n m o : ℕ} {rs : List Record} (formed : WellFormed n m o rs) {bytes : ℕ} {rule : Rule} {g a b : ℕ} {rs′ : List Record} (taken : Taken bytes n m rs rule g a b rs′) where
   outcome : Kept (deepens rule) n m (gatesAfter n m rs rule) o rs rs′
-  outcome = let w = known-rule rule (taken .known) in rw (taken .result) (by-rule formed g a b rule (w .0) (w .1) (taken .fields) (taken .form))
+  outcome = rw (taken .result) (by-rule formed g a b rule (taken .fields) (taken .form))
 
-  pub step-count : count 2 rs′ ≡ gatesAfter n m rs rule
-  step-count = gates-counted (outcome .formed)
+  pub taken-count : count 2 rs′ ≡ gatesAfter n m rs rule
+  taken-count = gates-counted (outcome .formed)
 
-  pub step-kept : Kept (deepens rule) n m (count 2 rs′) o rs rs′
-  step-kept = rw step-count outcome
+  pub taken-kept : Kept (deepens rule) n m (count 2 rs′) o rs rs′
+  taken-kept = rw taken-count outcome
+
+  taken-gates : count 2 rs′ ≤ 1024
+  taken-gates = omega (arith, taken-count, few-gates formed rule, taken .few)
+
+  taken-fits : 8 * length rs′ ≤ bytes
+  taken-fits = omega (arith, outcome .formed .whole, formed .whole, few-gates formed rule, taken .room)
+
+module _ {n m o : ℕ} {rs : List Record} (formed : WellFormed n m o rs) (bytes : ℕ) (s : Step) (rs′ : List Record) (e : step bytes n m rs s ≡ accepted rs′) where
+  by : Ruled bytes n m rs s rs′
+  by = ruled bytes n m rs s rs′ e
+
+  pub step-kept : Kept (deepensBy s) n m (count 2 rs′) o rs rs′
+  step-kept = rw (by .known) (taken-kept formed (by .taken))
 
   pub step-gates : count 2 rs′ ≤ 1024
-  step-gates = omega (arith, step-count, few-gates formed rule, taken .few)
+  step-gates = taken-gates formed (by .taken)
 
   pub step-fits : 8 * length rs′ ≤ bytes
-  step-fits = omega (arith, outcome .formed .whole, formed .whole, few-gates formed rule, taken .room)
+  step-fits = taken-fits formed (by .taken)
 
 -- the table that a step makes of an accepted one is accepted
-pub step-accepted : {n m o : ℕ} {rs : List Record} → Accepted n m o rs → (bytes rule g a b : ℕ) (rs′ : List Record) → step bytes n m rs rule g a b ≡ accepted rs′
+pub step-accepted : {n m o : ℕ} {rs : List Record} → Accepted n m o rs → (bytes : ℕ) (s : Step) (rs′ : List Record) → step bytes n m rs s ≡ accepted rs′
     → Accepted n (count 2 rs′) o rs′
-step-accepted was bytes rule g a b rs′ e =
+step-accepted was bytes s rs′ e =
     let limits = was .limits in
     record {
-      formed = step-kept (was .formed) bytes rule g a b rs′ e .formed;
-      limits = record { inputs = limits .inputs; gates = step-gates (was .formed) bytes rule g a b rs′ e; some = limits .some; outputs = limits .outputs };
+      formed = step-kept (was .formed) bytes s rs′ e .formed;
+      limits = record { inputs = limits .inputs; gates = step-gates (was .formed) bytes s rs′ e; some = limits .some; outputs = limits .outputs };
     }

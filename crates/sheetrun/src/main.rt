@@ -3,6 +3,7 @@ ghost use Prim.Native.Nat.{_≤_};
 use majority::Record;
 use refusals::Refusal;
 use rewriting::Stepped;
+use rules::Step;
 use tables::Checked;
 use text::Line;
 
@@ -112,7 +113,13 @@ fn associativity(table: &mut [u8; text::MOST_BYTES], used: usize, count: u16)
 {
     let line = asked(b"rule 3 at ", count, b" gates");
     tables::put_record(table, count as usize + 1, gate(6));
-    match rewriting::step(table, used, 3, count + 2, 0, 0) {
+    let step = Step {
+        rule: 3,
+        gate: count + 2,
+        a: 0,
+        b: 0,
+    };
+    match rewriting::step(table, used, step) {
         Stepped::Used(n) => {
             line.word(b"accepted, length ").number(n as u64).print();
         }

@@ -29,9 +29,9 @@ tableOf xs n = decode xs 0 n
 abbrev pub recordsOf : List ℕ → List Record
 recordsOf xs = tableOf xs (length xs / 8)
 
--- field d of record i of the bytes xs, 0 where they do not hold the record whole
+-- field d, below 4, of the eight bytes i of xs, 0 where xs does not hold them whole
 unfoldable pub fieldOf : List ℕ → ℕ → ℕ → ℕ
-fieldOf xs i d = if ltb i (length xs / 8) then fieldAt xs (4 * i + d) else 0
+fieldOf xs i d = if ltb i (length xs / 8) then (if ltb d 4 then fieldAt xs (4 * i + d) else 0) else 0
 
 -- the bytes of a field, and of a record, before others
 abbrev pub fieldBytes : ℕ → List ℕ → List ℕ

@@ -8,6 +8,7 @@ use checking::Claim;
 use checking::check_used;
 pub use claimed::check_as;
 use majority::Counts;
+pub use records::field_of;
 pub use records::put_record;
 pub use records::record_at;
 use refusals::Refusal;

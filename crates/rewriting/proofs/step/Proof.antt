@@ -30,7 +30,7 @@ same-length-2 : tie.Need-same-length-2
 same-length-2 c = search needs
 
 returns-2 : tie.Need-returns-2
-returns-2 c = (sym (refused-replies _ _ _ (c .before .before .before .check .ensures) _ _ _ _ _ (c .before .refusal .given .1)), sym (refused-leaves _ _ _ (c .before .before .before .check .ensures) _ _ _ _ _ (c .before .refusal .given .1)))
+returns-2 c = (sym (refused-replies _ _ _ (c .before .before .before .check .ensures) _ _ (c .before .refusal .given .1)), sym (refused-leaves _ _ _ (c .before .before .before .check .ensures) _ _ (c .before .refusal .given .1)))
 
 pub step-spec : {M : Type 1} → statement M
 step-spec =
