@@ -2,8 +2,6 @@
 // standard output, and what the script replied to standard error.
 use libc::STDIN_FILENO;
 use libc::STDOUT_FILENO;
-use refusals::refusal_number;
-use refusals::refusal_record;
 use rewriting::Ending;
 use rewriting::Progress;
 use text::Line;
@@ -26,8 +24,7 @@ fn complain(wrong: &[u8]) {
 fn ended(line: Line, ending: Ending) -> Line {
     match ending {
         Ending::Finished => line,
-        Ending::Stopped(r) => line.word(b" ")
-            .refused(refusal_number(r), refusal_record(r)),
+        Ending::Stopped(r) => line.word(b" ").refused(r),
     }
 }
 

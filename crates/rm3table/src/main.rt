@@ -12,9 +12,7 @@ fn answer(table: &[u8; text::ROOM], used: usize) {
             io::write_all(STDOUT_FILENO, &out[..length]);
         }
         Translated::Refused(r) => {
-            Line::empty()
-                .refused(refusals::refusal_number(r), refusals::refusal_record(r))
-                .complain();
+            Line::empty().refused(r).complain();
         }
     }
 }

@@ -66,8 +66,7 @@ fn asked(what: &[u8], number: u16, rest: &[u8]) -> Line {
 
 // Answers with a refusal.
 fn print_refused(line: Line, r: Refusal) {
-    line.refused(refusals::refusal_number(r), refusals::refusal_record(r))
-        .print();
+    line.refused(r).print();
 }
 
 // Checks the table and prints the answer.

@@ -9,6 +9,8 @@ use libc::STDERR_FILENO;
 use libc::STDIN_FILENO;
 use libc::STDOUT_FILENO;
 use refusals::Refusal;
+use refusals::refusal_number;
+use refusals::refusal_record;
 
 // The most bytes that a line holds.
 pub const WIDTH: usize = 128;
@@ -59,11 +61,11 @@ impl Line {
     }
 
     // The line with a refusal after its text: its number, and the record that it carries.
-    pub fn refused(self, number: u32, record: usize) -> Line {
+    pub fn refused(self, r: Refusal) -> Line {
         self.word(b"refused ")
-            .number(number as u64)
+            .number(refusal_number(r) as u64)
             .word(b" at ")
-            .number(record as u64)
+            .number(refusal_record(r) as u64)
     }
 
     // Writes the text to a file, all at once, and answers whether all of it was written.
@@ -148,9 +150,7 @@ pub fn print_too_long() {
 
 // Says which refusal a table met.
 pub fn print_refusal(r: Refusal) {
-    Line::empty()
-        .refused(refusals::refusal_number(r), refusals::refusal_record(r))
-        .print();
+    Line::empty().refused(r).print();
 }
 
 // Answers whether the program was called with no argument; where it was not, says how to call it.

@@ -34,12 +34,6 @@ enum-known-r c = search needs
 empty-requires : tie.Need-empty-requires
 empty-requires c κs = search needs
 
-refusal-number-requires : tie.Need-refusal-number-requires
-refusal-number-requires c κs = search needs
-
-refusal-record-requires : tie.Need-refusal-record-requires
-refusal-record-requires c κs = search needs
-
 refused-requires : tie.Need-refused-requires
 refused-requires c κs = search needs
 
@@ -64,8 +58,6 @@ answer-spec =
     write-all-requires
     enum-known-r
     empty-requires
-    refusal-number-requires
-    refusal-record-requires
     refused-requires
     complain-requires
     returns
