@@ -12,7 +12,7 @@ use Rattle.majority.specs.Value.{values}
 use Rattle.majority.specs.Level.{levels, level}
 use Rattle.majority.specs.Edit.{nodeRecord, insert}
 use Rattle.majority.specs.Rules.{plain, plainGate, named, associativityForm, associativity}
-use Rattle.majority.specs.Kept.{Kept}
+use Rattle.majority.specs.Kept.{raising, NodesKept}
 use Rattle.majority.specs.declared.Record.{Record}
 use Rattle.majority.proofs.Logic.{both}
 use Rattle.majority.proofs.Levels.{above-least}
@@ -65,7 +65,7 @@ module _ {n m o g : ℕ} {rs : List Record} (is : GateOf n m o g rs) where
           let stays = insert-edge is (new ∷ []) gates 𝓜 in
           cc (stays (h .e3) (h-reads .third), stays (r .e2) (r-reads .second), first-inserted is (new ∷ []) gates 𝓜 (omega arith))
 
-    pub associativity-kept : Kept 1 n m (m + 1) o rs (associativity g rs)
+    pub associativity-kept : NodesKept 1 n m (m + 1) o (raising g 1) rs (associativity g rs)
     unfolding associativity
     associativity-kept =
         let lv = gate-level is in

@@ -12,12 +12,12 @@ use Rattle.majority.specs.Node.{Meaning, worth}
 use Rattle.majority.specs.Value.{values, value}
 use Rattle.majority.specs.Level.{levels, level}
 use Rattle.majority.specs.Edit.{nodeRecord, become}
-use Rattle.majority.specs.Kept.{Kept}
+use Rattle.majority.specs.Kept.{inPlace, NodesKept}
 use Rattle.majority.specs.declared.Record.{Record}
 use Rattle.majority.proofs.Nodes.{Respects, equals, edge-related, node-induction, node-zero}
 use Rattle.majority.proofs.Formed.{below-more}
 use Rattle.majority.proofs.Placed.{Placed, placed, all-placed, gate-placed}
-use Rattle.majority.proofs.Keeping.{within-depth, kept-by-nodes, counterpart-lower, agree-below}
+use Rattle.majority.proofs.Keeping.{nodes-in-place, counterpart-lower, agree-below}
 use Rattle.majority.proofs.Meanings.{Rises, rises}
 use Rattle.majority.proofs.Gates.{gateWorth, gate-agrees, GateOf, gate-node}
 
@@ -68,8 +68,9 @@ module _ {n m o g : ℕ} {rs : List Record} (is : GateOf n m o g rs) (s : Record
               counterpart-lower (is .formed) become-formed 𝓜 Q 𝓠 (λ x. x) j j h h (become-other j e) (λ l. refl)
               (λ x l. edge-related 𝓜 Q 𝓠 _ _ x x refl (below (nodeOf x) l))
 
-    pub become-kept : (δ : ℕ) → ((a : ℕ) → value a rs g ≡ gateWorth (values a) (value a rs) s) → gateWorth levels (level rs) s ≤ level rs g + δ → Kept δ n m m o rs (become g s rs)
+    pub become-kept : (δ : ℕ) → ((a : ℕ) → value a rs g ≡ gateWorth (values a) (value a rs) s) → gateWorth levels (level rs) s ≤ level rs g + δ
+        → NodesKept δ n m m o inPlace rs (become g s rs)
     become-kept δ same deep =
-        kept-by-nodes (is .formed) become-formed
-        (λ a j h. sym (become-nodes (values a) (λ x y. x ≡ y) (equals (values a)) (same a) (suc (n + m + j)) (omega arith)))
-        (λ k p q. let l = become-nodes levels (Rises δ) (rises δ) deep k (omega arith) in omega (arith, within-depth n m rs k p q))
+        nodes-in-place become-formed
+        (λ a. become-nodes (values a) (λ x y. x ≡ y) (equals (values a)) (same a))
+        (become-nodes levels (Rises δ) (rises δ) deep)

@@ -1,6 +1,6 @@
 -- Closing up keeps a table where with each record the nodes that it names are kept, and all inputs and outputs are.
 use Prim.Native.Nat.{ℕ, zero, suc, _+_, _≤_, _<_}
-use mathlib.Core.Path.{_≡_, sym, ap, _∙_}
+use mathlib.Core.Path.{_≡_, refl, sym, ap, _∙_}
 use mathlib.Core.Bool.{Bool, true}
 use mathlib.Core.List.{List, map}
 use native.Mathlib.Omega.{arith}
@@ -9,16 +9,16 @@ use lib.ListN.{length, length-map}
 use Rattle.majority.specs.Edge.{nodeOf}
 use Rattle.majority.specs.Table.{recordAt, WellFormed}
 use Rattle.majority.specs.Node.{Meaning, edgeWorth, worth}
-use Rattle.majority.specs.Value.{values, value}
-use Rattle.majority.specs.Level.{levels, level, depth}
+use Rattle.majority.specs.Value.{values}
+use Rattle.majority.specs.Level.{levels, level}
 use Rattle.majority.specs.Edit.{edges}
 use Rattle.majority.specs.Sweep.{kept, renumber, closeUp}
-use Rattle.majority.specs.Kept.{Kept}
+use Rattle.majority.specs.Kept.{closingUp, Near, NodesKept}
 use Rattle.majority.specs.declared.Record.{Record}
 use Rattle.majority.proofs.Nodes.{equals, edge-related, node-induction, node-zero}
 use Rattle.majority.proofs.Formed.{reads-lower}
 use Rattle.majority.proofs.Placed.{Placed, placed, all-placed, Moved, edges-at, edges-placed}
-use Rattle.majority.proofs.Keeping.{within-depth, kept-by-nodes, Each, counterpart}
+use Rattle.majority.proofs.Keeping.{Each, counterpart}
 use Rattle.majority.proofs.KeptNodes.{kept-in, kept-lower, kept-order, kept-all, stands, kept-at, kept-length, renumber-node, renumber-parity, renumber-zero}
 
 -- what may be kept so that the rest can go, m′ gates among it
@@ -98,20 +98,27 @@ module _ {keep : ℕ → Bool} {n m m′ o : ℕ} {rs : List Record} (may : Keep
         (λ l. sym (inputs-stay j (omega arith)))
         (edge _ (low .first) (names .0), edge _ (low .second) (names .1), edge _ (low .third) (names .2))))
 
-  pub closed-kept : Kept 0 n m m′ o rs after
-  closed-kept =
-      kept-by-nodes (may .formed) closed-formed
-      (λ a j h.
-      let s : keep (suc (n + m + j)) ≡ true = may .outputs (n + m + j) (omega arith) (omega arith) in
-      let e : kept keep 0 (suc (n + m + j)) ≡ suc (n + m′ + j) = omega (arith, kept-in keep (n + m + j) s, outputs-move j (omega arith)) in
-      ap (value a after) (sym e) ∙ sym (closed-nodes (values a) (suc (n + m + j)) (omega arith) s))
-      deep
+  pub closed-kept : NodesKept 0 n m m′ o (closingUp keep) rs after
+  closed-kept = record {
+    formed = closed-formed;
+    values = λ a k h s. sym (closed-nodes (values a) k h s);
+    levels = λ k h s. omega (arith, closed-nodes levels k h s);
+    nodes = λ k h. omega (arith, kept-order keep k (n + m) h, may .gates);
+    outputs = λ j h.
+        let s : keep (suc (n + m + j)) ≡ true = may .outputs (n + m + j) (omega arith) (omega arith) in
+        (s, kept-in keep (n + m + j) s ∙ ap suc (outputs-move j (omega arith)), refl);
+    gates = from;
+  }
     where
       -- each gate has come from one
-      deep : (k : ℕ) → n < k → k ≤ n + m′ → level after k ≤ depth n m rs + 0
-      deep zero p q = absurd (omega arith)
-      deep (suc k) p q =
+      from : (k : ℕ) → n < k → k ≤ n + m′ → Near 0 n m rs (level after k)
+      from zero p q = absurd (omega arith)
+      from (suc k) p q =
           let w = stands keep (n + m) k (omega (arith, may .gates)) in
           let e : suc k ≡ kept keep 0 (suc (w .at)) = omega (arith, kept-in keep (w .at) (w .kept-too), w .place) in
-          let from : n ≤ w .at = omega (arith, w .place, kept-lower keep (w .at)) in
-          rw (e, ← closed-nodes levels (suc (w .at)) (omega (arith, w .early)) (w .kept-too)) (omega (arith, within-depth n m rs (suc (w .at)) (omega arith) (w .early)))
+          record {
+            gate = suc (w .at);
+            from = omega (arith, w .place, kept-lower keep (w .at));
+            upto = w .early;
+            near = rw e (omega (arith, closed-nodes levels (suc (w .at)) (omega (arith, w .early)) (w .kept-too)));
+          }

@@ -10,7 +10,7 @@ use Rattle.majority.specs.Table.{gate}
 use Rattle.majority.specs.Value.{values}
 use Rattle.majority.specs.Edit.{nodeRecord, become}
 use Rattle.majority.specs.Rules.{exchange}
-use Rattle.majority.specs.Kept.{Kept}
+use Rattle.majority.specs.Kept.{inPlace, NodesKept}
 use Rattle.majority.specs.declared.Record.{Record}
 use Rattle.majority.proofs.Levels.{above-least}
 use Rattle.majority.proofs.MajorityLaws.{majority-first-second, majority-first-third}
@@ -21,7 +21,7 @@ module _ {n m o g : ℕ} {rs : List Record} (is : GateOf n m o g rs) where
   abbrev r : Record
   r = nodeRecord rs g
 
-  either : (t : Bool) → Kept 0 n m m o rs (become g (if t then gate (r .e2) (r .e1) (r .e3) else gate (r .e3) (r .e2) (r .e1)) rs)
+  either : (t : Bool) → NodesKept 0 n m m o inPlace rs (become g (if t then gate (r .e2) (r .e1) (r .e3) else gate (r .e3) (r .e2) (r .e1)) rs)
   either true =
       let low = gate-reads is in
       let under = gate-level is in
@@ -35,6 +35,6 @@ module _ {n m o g : ℕ} {rs : List Record} (is : GateOf n m o g rs) where
       (λ a. gate-node is (values a) ∙ sym (majority-first-third _ _ _))
       (above-least _ _ _ _ (omega (arith, under .2)) (omega (arith, under .1)) (omega (arith, under .0)))
 
-  pub exchange-kept : (a : ℕ) → Kept 0 n m m o rs (exchange a g rs)
+  pub exchange-kept : (a : ℕ) → NodesKept 0 n m m o inPlace rs (exchange a g rs)
   unfolding exchange
   exchange-kept a = either (eqb a 1)

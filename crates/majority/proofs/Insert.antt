@@ -6,14 +6,14 @@ use native.Mathlib.Omega.{arith}
 use native.Mathlib.Decide.{decLt}
 use lib.ListN.{length, getD, take, drop, length-append, length-take, length-drop, length-map, List·getD-append}
 use lib.Seq.{length-take-le, getD-append-add, getD-take, getD-drop}
-use Rattle.majority.specs.Edge.{raise}
+use Rattle.majority.specs.Edge.{raised, raise}
 use Rattle.majority.specs.Table.{blank, recordAt, WellFormed}
 use Rattle.majority.specs.Edit.{edges, insert}
 use Rattle.majority.specs.declared.Record.{Record}
 use Rattle.majority.proofs.Formed.{reads-lower, reads-nodes}
 use Rattle.majority.proofs.Placed.{edges-at}
 use Rattle.majority.proofs.Keeping.{Each}
-use Rattle.majority.proofs.Raise.{raised, raised-below, raised-from, raised-cases, raise-below, raise-fits}
+use Rattle.majority.proofs.Raise.{raised-below, raised-from, raised-cases, raise-below, raise-fits}
 
 -- a list with others put before its element i
 module _ {A : Type 0} (i : ℕ) (news l : List A) (d : A) (fits : i ≤ length l) where

@@ -1,9 +1,13 @@
 -- Rule 6, inversion: node g is inverted, every edge that names it with it, and every other node keeps its worth.
 use Prim.Native.Nat.{ℕ, suc, _+_, _-_, _≤_, _<_}
 use mathlib.Core.Path.{_≡_, refl, sym, ap, _∙_}
+use mathlib.Core.Bool.{Bool, true, false}
 use mathlib.Core.List.{List}
 use native.Mathlib.Omega.{arith}
 use native.Mathlib.Decide.{ℕ-discrete}
+use borrow.Author.Tests.{eq-eqb, ne-eqb}
+use lib.Dec.{eqb}
+use Rattle.majority.specs.If.{if_then_else_}
 use Rattle.majority.specs.Edge.{nodeOf, flip, redirect}
 use Rattle.majority.specs.Table.{recordAt, Below, WellFormed}
 use Rattle.majority.specs.Node.{Meaning, edgeWorth, worth}
@@ -11,10 +15,10 @@ use Rattle.majority.specs.Value.{values}
 use Rattle.majority.specs.Level.{levels, level}
 use Rattle.majority.specs.Edit.{edges, nodeRecord, redirectAll}
 use Rattle.majority.specs.Rules.{plain, inversion}
-use Rattle.majority.specs.Kept.{Kept}
+use Rattle.majority.specs.Kept.{inverting, NodesKept}
 use Rattle.majority.specs.declared.Record.{Record}
 use Rattle.majority.proofs.Nodes.{equals, edge-agrees, node-induction, node-zero}
-use Rattle.majority.proofs.Keeping.{within-depth, kept-by-nodes, counterpart-lower}
+use Rattle.majority.proofs.Keeping.{counterpart-lower}
 use Rattle.majority.proofs.Meanings.{SelfDual, dual-values, dual-levels}
 use Rattle.majority.proofs.Edges.{flip-node, flip-worth, plain-worth, redirect-related}
 use Rattle.majority.proofs.Gates.{gateWorth, GateOf, gate-kind, gate-reads, gate-node}
@@ -100,15 +104,26 @@ module _ {n m o g : ℕ} {rs : List Record} (is : GateOf n m o g rs) where
           λ hit. rw hit (at-g (λ k l. below k (omega arith) .0 (λ e. omega arith))),
         ))
 
-  same-level : (k : ℕ) → k ≤ n + m + o → level (inversion g rs) k ≡ level rs k
-  same-level k h = go (ℕ-discrete k g)
-    where
-      go : Dec (k ≡ g) → level (inversion g rs) k ≡ level rs k
-      go (yes e) = inverts levels dual-levels k h .1 e
-      go (no e) = sym (inverts levels dual-levels k h .0 e)
+    inverts-g : (k : ℕ) → k ≤ n + m + o → new k ≡ (if eqb k g then 𝓜 .inverse (old k) else old k)
+    inverts-g k h = go (ℕ-discrete k g)
+      where
+        go : Dec (k ≡ g) → new k ≡ (if eqb k g then 𝓜 .inverse (old k) else old k)
+        go (yes e) = rw (eq-eqb k g e) (inverts k h .1 e)
+        go (no e) = rw (ne-eqb k g e) (sym (inverts k h .0 e))
 
-  pub inversion-kept : Kept 0 n m m o rs (inversion g rs)
-  inversion-kept =
-      kept-by-nodes (is .formed) inversion-formed
-      (λ a j h. sym (inverts (values a) (dual-values a) (suc (n + m + j)) (omega arith) .0 (λ e. omega (arith, is .upto))))
-      (λ k p q. rw (same-level k (omega arith)) (omega (arith, within-depth n m rs k p q)))
+  same-level : (k : ℕ) → k ≤ n + m + o → level (inversion g rs) k ≡ level rs k
+  same-level k h = inverts-g levels dual-levels k h ∙ either (eqb k g)
+    where
+      either : (t : Bool) → (if t then level rs k else level rs k) ≡ level rs k
+      either true = refl
+      either false = refl
+
+  pub inversion-kept : NodesKept 0 n m m o (inverting g) rs (inversion g rs)
+  inversion-kept = record {
+    formed = inversion-formed;
+    values = λ a k h s. inverts-g (values a) (dual-values a) k h;
+    levels = λ k h s. omega (arith, same-level k h);
+    nodes = λ k h. h;
+    outputs = λ j h. (refl, refl, ne-eqb (suc (n + m + j)) g (λ e. omega (arith, is .upto)));
+    gates = λ k p q. record { gate = k; from = p; upto = q; near = omega (arith, same-level k (omega arith)) };
+  }

@@ -12,7 +12,7 @@ use Rattle.majority.specs.Value.{values}
 use Rattle.majority.specs.Level.{levels, level}
 use Rattle.majority.specs.Edit.{nodeRecord, insert}
 use Rattle.majority.specs.Rules.{plain, plainGate, named, inwardForm, inward}
-use Rattle.majority.specs.Kept.{Kept}
+use Rattle.majority.specs.Kept.{raising, NodesKept}
 use Rattle.majority.specs.declared.Record.{Record}
 use Rattle.majority.proofs.Logic.{both}
 use Rattle.majority.proofs.Levels.{above-least}
@@ -80,7 +80,7 @@ module _ {n m o g : ℕ} {rs : List Record} (is : GateOf n m o g rs) where
           let stays = insert-edge is (new ∷ []) gates 𝓜 in
           cc (stays (p .e1) (p-reads .first), stays (p .e2) (p-reads .second), first-inserted is (new ∷ []) gates 𝓜 (omega arith))
 
-    formed-kept : Kept 1 n m (m + 1) o rs (inward g rs)
+    formed-kept : NodesKept 1 n m (m + 1) o (raising g 1) rs (inward g rs)
     unfolding inward
     formed-kept =
         let lv = gate-level is in
@@ -93,5 +93,5 @@ module _ {n m o g : ℕ} {rs : List Record} (is : GateOf n m o g rs) where
         (λ a. before (values a) ∙ majority-distributive _ _ _ _ _ ∙ sym (after (values a)))
         (rw (after levels) (above-least _ _ _ _ (omega (arith, lv .0, lp .0)) (omega (arith, lv .0, lp .1)) (omega arith)))
 
-  pub inward-kept : inwardForm n r p q ≡ true → Kept 1 n m (m + 1) o rs (inward g rs)
+  pub inward-kept : inwardForm n r p q ≡ true → NodesKept 1 n m (m + 1) o (raising g 1) rs (inward g rs)
   inward-kept form = formed-kept (has-form form)

@@ -1,4 +1,4 @@
--- `Kept` from what the nodes are worth, and what a node is worth where a table's record is another's with other edges.
+-- `Kept` from `NodesKept`, `NodesKept` where no node moves, and what a node is worth where a table's record is another's with other edges.
 use Prim.Native.Nat.{ℕ, suc, _+_, _≤_, _<_}
 use mathlib.Core.Path.{_≡_, refl, sym, ap, _∙_}
 use mathlib.Core.List.{List}
@@ -10,7 +10,7 @@ use Rattle.majority.specs.Node.{Meaning, edgeWorth, worth}
 use Rattle.majority.specs.Value.{value}
 use Rattle.majority.specs.Level.{level, depth}
 use Rattle.majority.specs.Edit.{edges}
-use Rattle.majority.specs.Kept.{Kept}
+use Rattle.majority.specs.Kept.{Moves, inPlace, NodesKept, Kept}
 use Rattle.majority.specs.declared.Record.{Record}
 use Rattle.majority.proofs.Nodes.{Respects, equals, record-related, edge-agrees, node-induction, node-zero}
 use Rattle.majority.proofs.Formed.{formed-eq, output-eq, not-input, reads-lower}
@@ -21,16 +21,30 @@ pub within-depth : (n m : ℕ) (rs : List Record) (k : ℕ) → n < k → k ≤ 
 unfolding depth
 within-depth n m rs k p q = at-most-highest (level rs) m (n + 1) k (omega arith) (omega arith)
 
--- the outputs' records keep their values, and no gate stands above the old depth by more than δ
-pub kept-by-nodes : {δ n m m′ o : ℕ} {rs rs′ : List Record} → WellFormed n m o rs → WellFormed n m′ o rs′
-    → ((a j : ℕ) → j < o → value a rs′ (suc (n + m′ + j)) ≡ value a rs (suc (n + m + j)))
-    → ((k : ℕ) → n < k → k ≤ n + m′ → level rs′ k ≤ depth n m rs + δ)
-    → Kept δ n m m′ o rs rs′
+-- outputs are worth what their records are, and no gate stands more than δ above the old depth
+pub kept-by-nodes : {δ n m m′ o : ℕ} {moves : Moves} {rs rs′ : List Record} → WellFormed n m o rs → NodesKept δ n m m′ o moves rs rs′ → Kept δ n m m′ o rs rs′
 unfolding depth
-kept-by-nodes {δ} {n} {m} {m′} {rs′ = rs′} old new values levels = record {
+kept-by-nodes {δ} {n} {m} {m′} {rs = rs} {rs′} old w = record {
+  formed = w .formed;
+  outputs = λ a j h.
+      let s = w .outputs j h in
+      output-eq (w .formed) a j h ∙ (rw (s .1, s .2) at (w .values a (suc (n + m + j)) (omega arith) (s .0))) ∙ sym (output-eq old a j h);
+  deep = highest-at-most (level rs′) m′ (n + 1) _
+      (λ k p q. let u = w .gates k (omega arith) (omega arith) in omega (arith, u .near, within-depth n m rs (u .gate) (u .from) (u .upto)));
+}
+
+-- where no node moves
+pub nodes-in-place : {δ n m o : ℕ} {rs rs′ : List Record} → WellFormed n m o rs′
+    → ((a k : ℕ) → k ≤ n + m + o → value a rs k ≡ value a rs′ k)
+    → ((k : ℕ) → k ≤ n + m + o → level rs′ k ≤ level rs k + δ)
+    → NodesKept δ n m m o inPlace rs rs′
+nodes-in-place new same rise = record {
   formed = new;
-  outputs = λ a j h. output-eq new a j h ∙ values a j h ∙ sym (output-eq old a j h);
-  deep = highest-at-most (level rs′) m′ (n + 1) _ (λ k p q. levels k (omega arith) (omega arith));
+  values = λ a k h s. sym (same a k h);
+  levels = λ k h s. rise k h;
+  nodes = λ k h. h;
+  outputs = λ j h. (refl, refl, refl);
+  gates = λ k p q. record { gate = k; from = p; upto = q; near = rise k (omega arith) };
 }
 
 -- P of each of a record's three edges

@@ -13,7 +13,7 @@ use Rattle.majority.specs.Value.{majorityOf, values, value}
 use Rattle.majority.specs.Level.{levels}
 use Rattle.majority.specs.Edit.{nodeRecord, redirectAll}
 use Rattle.majority.specs.Rules.{plain, majorityForm, majorityRule, shareForm, share}
-use Rattle.majority.specs.Kept.{Kept}
+use Rattle.majority.specs.Kept.{inPlace, NodesKept}
 use Rattle.majority.specs.declared.Record.{Record}
 use Rattle.majority.proofs.Logic.{both}
 use Rattle.majority.proofs.MajorityLaws.{majority-equal, majority-opposite}
@@ -30,7 +30,7 @@ module _ {n m o g : ℕ} {rs : List Record} (is : GateOf n m o g rs) where
   abbrev v : ℕ → ℕ → Bool
   v a = edgeWorth (values a) (value a rs)
 
-  either : (t : Bool) → eqb (r .e2) (r .e1) ≡ t → (t || eqb (r .e2) (flip (r .e1))) ≡ true → Kept 0 n m m o rs (redirectAll g (if t then r .e1 else r .e3) rs)
+  either : (t : Bool) → eqb (r .e2) (r .e1) ≡ t → (t || eqb (r .e2) (flip (r .e1))) ≡ true → NodesKept 0 n m m o inPlace rs (redirectAll g (if t then r .e1 else r .e3) rs)
   either true test form =
       let same : r .e2 ≡ r .e1 = eqb-true _ _ test in
       redirect-kept g (r .e1) (is .formed) (omega (arith, is .from)) (omega (arith, gate-reads is .first))
@@ -45,7 +45,7 @@ module _ {n m o g : ℕ} {rs : List Record} (is : GateOf n m o g rs) where
       ∙ majority-opposite _ _)
       (omega (arith, gate-level is .2))
 
-  pub majority-kept : majorityForm r ≡ true → Kept 0 n m m o rs (majorityRule g rs)
+  pub majority-kept : majorityForm r ≡ true → NodesKept 0 n m m o inPlace rs (majorityRule g rs)
   unfolding majorityForm majorityRule
   majority-kept form = either (eqb (r .e2) (r .e1)) refl form
 
@@ -66,6 +66,6 @@ module _ {n m o g : ℕ} {rs : List Record} (is : GateOf n m o g rs) where
     twin : {A : Type 0} (𝓜 : Meaning A) → worth 𝓜 rs g ≡ edgeWorth 𝓜 (worth 𝓜 rs) (plain a)
     twin 𝓜 = gate-node is 𝓜 ∙ cc (alike .0, alike .1, alike .2) ∙ sym (gate-node too 𝓜) ∙ sym (plain-worth 𝓜 (worth 𝓜 rs) a)
 
-    pub share-kept : Kept 0 n m m o rs (share a g rs)
+    pub share-kept : NodesKept 0 n m m o inPlace rs (share a g rs)
     unfolding share
     share-kept = redirect-kept g (plain a) (is .formed) (omega arith) (omega arith) (λ b. twin (values b)) (omega (arith, twin levels))

@@ -10,7 +10,7 @@ use Rattle.majority.specs.Value.{values}
 use Rattle.majority.specs.Level.{levels, level}
 use Rattle.majority.specs.Edit.{nodeRecord, insert}
 use Rattle.majority.specs.Rules.{plain, plainGate, named, outwardForm, outward}
-use Rattle.majority.specs.Kept.{Kept}
+use Rattle.majority.specs.Kept.{raising, NodesKept}
 use Rattle.majority.specs.declared.Record.{Record}
 use Rattle.majority.proofs.Levels.{above-least}
 use Rattle.majority.proofs.MajorityLaws.{majority-distributive}
@@ -68,7 +68,7 @@ module _ {n m o g : ℕ} {rs : List Record} (is : GateOf n m o g rs) where
             insert-edge is (p ∷ q ∷ []) gates 𝓜 (h .e3) (h-reads .third),
           )
 
-    pub outward-kept : Kept 1 n m (m + 2) o rs (outward g rs)
+    pub outward-kept : NodesKept 1 n m (m + 2) o (raising g 2) rs (outward g rs)
     unfolding outward
     outward-kept =
         let lv = gate-level is in

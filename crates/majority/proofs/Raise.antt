@@ -4,13 +4,7 @@ use mathlib.Core.Path.{_≡_, refl}
 use native.Mathlib.Omega.{arith}
 use native.Mathlib.Decide.{decLt}
 use borrow.Author.Tests.{lt-ltb, le-ltb}
-use lib.Dec.{ltb}
-use Rattle.majority.specs.If.{if_then_else_}
-use Rattle.majority.specs.Edge.{nodeOf, raise}
-
--- the number that k becomes, where numbers from g upward rise by c
-unfoldable pub raised : ℕ → ℕ → ℕ → ℕ
-raised g c k = if ltb k g then k else k + c
+use Rattle.majority.specs.Edge.{nodeOf, raised, raise}
 
 module _ (g c : ℕ) where
   pub raised-below : (k : ℕ) → k < g → raised g c k ≡ k

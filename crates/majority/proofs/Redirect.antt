@@ -1,6 +1,6 @@
--- Redirecting keeps a table where the node and the edge that stands for it have the same value, and the edge no higher level.
-use Prim.Native.Nat.{ℕ, suc, _+_, _≤_, _<_}
-use mathlib.Core.Path.{_≡_, refl, sym, _∙_}
+-- Redirecting keeps every node's value under an assignment that gives the node and the edge that stands for it the same value; and levels, where that edge stands no higher.
+use Prim.Native.Nat.{ℕ, _+_, _≤_, _<_}
+use mathlib.Core.Path.{_≡_, refl, _∙_}
 use mathlib.Core.List.{List}
 use native.Mathlib.Omega.{arith}
 use lib.ListN.{length-map}
@@ -10,13 +10,13 @@ use Rattle.majority.specs.Node.{Meaning, edgeWorth, worth}
 use Rattle.majority.specs.Value.{values, value}
 use Rattle.majority.specs.Level.{levels, level}
 use Rattle.majority.specs.Edit.{edges, redirectAll}
-use Rattle.majority.specs.Kept.{Kept}
+use Rattle.majority.specs.Kept.{inPlace, NodesKept}
 use Rattle.majority.specs.declared.Record.{Record}
-use Rattle.majority.proofs.Nodes.{Respects, equals, edge-related, node-induction, node-zero}
+use Rattle.majority.proofs.Nodes.{Respects, equals, node-induction, node-zero}
 use Rattle.majority.proofs.Placed.{placed, all-placed, unmoved, edges-at, edges-placed}
-use Rattle.majority.proofs.Keeping.{within-depth, kept-by-nodes, counterpart-lower}
+use Rattle.majority.proofs.Keeping.{nodes-in-place, counterpart-lower}
 use Rattle.majority.proofs.Meanings.{SelfDual, dual-values, dual-levels, Rises, rises}
-use Rattle.majority.proofs.Edges.{redirect-zero, redirect-lowers, redirect-related}
+use Rattle.majority.proofs.Edges.{redirect-zero, redirect-lowers, redirect-upto}
 
 module _ (g e : ℕ) {n m o : ℕ} {rs : List Record} (formed : WellFormed n m o rs) (some : 0 < g) (lower : nodeOf e ≤ g) where
   pub redirected-at : (j : ℕ) → recordAt (redirectAll g e rs) j ≡ edges (redirect g e) (recordAt rs j)
@@ -40,15 +40,15 @@ module _ (g e : ℕ) {n m o : ℕ} {rs : List Record} (formed : WellFormed n m o
         (rw (node-zero 𝓜 rs, node-zero 𝓜 (redirectAll g e rs)) (𝓠 .same _))
         (λ j h below.
         counterpart-lower formed redirect-formed 𝓜 Q 𝓠 (redirect g e) j j h h (redirected-at j) (λ l. refl)
-        (λ x l.
-        redirect-related g e 𝓜 dual Q 𝓠 (worth 𝓜 rs) (worth 𝓜 (redirectAll g e rs)) x
-        (λ hit. then _ _ _ here (edge-related 𝓜 Q 𝓠 _ _ e e refl (below (nodeOf e) (omega arith))))
-        (λ miss. below (nodeOf x) (omega arith))))
+        (redirect-upto g e 𝓜 dual Q 𝓠 then (worth 𝓜 rs) (worth 𝓜 (redirectAll g e rs)) lower here j below))
 
-  pub redirect-kept : ((a : ℕ) → value a rs g ≡ edgeWorth (values a) (value a rs) e) → edgeWorth levels (level rs) e ≤ level rs g → Kept 0 n m m o rs (redirectAll g e rs)
-  redirect-kept same deep =
-      kept-by-nodes formed redirect-formed
-      (λ a j h. sym (redirect-nodes (values a) (dual-values a) (λ x y. x ≡ y) (equals (values a)) (λ x y z p q. p ∙ q) (same a) (suc (n + m + j)) (omega arith)))
-      (λ k p q.
-      let l = redirect-nodes levels dual-levels (Rises 0) (rises 0) (λ x y z s t. omega arith) (omega arith) k (omega arith) in
-      omega (arith, within-depth n m rs k p q))
+  -- under one assignment
+  pub redirect-values : (a : ℕ) → value a rs g ≡ edgeWorth (values a) (value a rs) e → (k : ℕ) → k ≤ n + m + o → value a rs k ≡ value a (redirectAll g e rs) k
+  redirect-values a = redirect-nodes (values a) (dual-values a) (λ x y. x ≡ y) (equals (values a)) (λ x y z p q. p ∙ q)
+
+  pub redirect-levels : edgeWorth levels (level rs) e ≤ level rs g → (k : ℕ) → k ≤ n + m + o → level (redirectAll g e rs) k ≤ level rs k + 0
+  redirect-levels deep = redirect-nodes levels dual-levels (Rises 0) (rises 0) (λ x y z s t. omega arith) (omega arith)
+
+  pub redirect-kept : ((a : ℕ) → value a rs g ≡ edgeWorth (values a) (value a rs) e) → edgeWorth levels (level rs) e ≤ level rs g
+      → NodesKept 0 n m m o inPlace rs (redirectAll g e rs)
+  redirect-kept same deep = nodes-in-place redirect-formed (λ a. redirect-values a (same a)) (redirect-levels deep)

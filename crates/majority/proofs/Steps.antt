@@ -11,10 +11,11 @@ use Rattle.majority.specs.If.{if_then_else_}
 use Rattle.majority.specs.Table.{WellFormed}
 use Rattle.majority.specs.Check.{accepted, count}
 use Rattle.majority.specs.Step.{fieldsFit, hasForm, inserted, rewritten, step, deepens}
-use Rattle.majority.specs.Kept.{Kept}
+use Rattle.majority.specs.Kept.{movesOf, NodesKept, Kept}
 use Rattle.majority.specs.declared.Record.{Record}
 use Rattle.majority.proofs.Order.{order-counts}
 use Rattle.majority.proofs.Accepted.{Accepted, order-of}
+use Rattle.majority.proofs.Keeping.{kept-by-nodes}
 use Rattle.majority.proofs.Gates.{GateOf}
 use Rattle.majority.proofs.Exchange.{exchange-kept}
 use Rattle.majority.proofs.MajorityShare.{majority-kept, share-kept}
@@ -35,7 +36,7 @@ module _ {n m o : ℕ} {rs : List Record} (formed : WellFormed n m o rs) (g a b 
 
   -- the eight rules, one after another
   by-rule : (rule : ℕ) → 1 ≤ rule → rule ≤ 8 → fieldsFit n m rule g a b ≡ true → hasForm n rs rule g a ≡ true
-      → Kept (deepens rule) n m (gatesAfter n m rs rule) o rs (rewritten rs rule g a)
+      → NodesKept (deepens rule) n m (gatesAfter n m rs rule) o (movesOf rs rule g) rs (rewritten rs rule g a)
   unfolding hasForm rewritten
   by-rule zero low high fields form = absurd (omega arith)
   by-rule (suc zero) low high fields form = rw (add-zero m) (exchange-kept (gate-of 1 refl fields) a)
@@ -65,14 +66,18 @@ module _ {n m o : ℕ} {rs : List Record} (formed : WellFormed n m o rs) (bytes 
   taken : Taken bytes n m rs rule g a b rs′
   taken = step-taken bytes n m rs rule g a b rs′ e
 
-  outcome : Kept (deepens rule) n m (gatesAfter n m rs rule) o rs rs′
+  outcome : NodesKept (deepens rule) n m (gatesAfter n m rs rule) o (movesOf rs rule g) rs rs′
   outcome = let w = known-rule rule (taken .known) in rw (taken .result) (by-rule formed g a b rule (w .0) (w .1) (taken .fields) (taken .form))
 
   pub step-count : count 2 rs′ ≡ gatesAfter n m rs rule
   step-count = gates-counted (outcome .formed)
 
+  -- at the nodes, and so at the outputs
+  pub step-nodes : NodesKept (deepens rule) n m (count 2 rs′) o (movesOf rs rule g) rs rs′
+  step-nodes = rw step-count outcome
+
   pub step-kept : Kept (deepens rule) n m (count 2 rs′) o rs rs′
-  step-kept = rw step-count outcome
+  step-kept = kept-by-nodes formed step-nodes
 
   pub step-gates : count 2 rs′ ≤ 1024
   step-gates = omega (arith, step-count, few-gates formed rule, taken .few)

@@ -9,7 +9,7 @@ use native.Mathlib.Decide.{decLt}
 use Rattle.majority.specs.Table.{recordAt, WellFormed}
 use Rattle.majority.specs.Node.{byKind}
 use Rattle.majority.specs.Sweep.{member, reached, stays, kept, sweep}
-use Rattle.majority.specs.Kept.{Kept}
+use Rattle.majority.specs.Kept.{closingUp, NodesKept}
 use Rattle.majority.specs.declared.Record.{Record}
 use Rattle.majority.proofs.KeptNodes.{kept-lower, kept-order, kept-all}
 use Rattle.majority.proofs.CloseUp.{Keepable, closed-kept}
@@ -74,6 +74,6 @@ module _ {n m o : ℕ} {rs : List Record} (formed : WellFormed n m o rs) where
       go j h s (no p) (yes q) = names-stay rs (recordAt rs j) (gate-reached formed j (omega arith) q (sym (gate-stays j (omega arith) q) ∙ s))
       go j h s (no p) (no q) = names-stay rs (recordAt rs j) (output-reached formed j (omega arith) h)
 
-  pub sweep-kept : Kept 0 n m (left n m rs) o rs (sweep rs)
+  pub sweep-kept : NodesKept 0 n m (left n m rs) o (closingUp (stays rs)) rs (sweep rs)
   unfolding sweep
   sweep-kept = closed-kept keepable

@@ -6,11 +6,11 @@ pub mod Value
 pub mod Level
 pub mod Seek
 pub mod Check
-pub mod Kept
 pub mod Edit
 pub mod Sweep
 pub mod Rules
 pub mod Step
+pub mod Kept
 pub mod Rm3
 pub mod Translate
 pub mod Count3

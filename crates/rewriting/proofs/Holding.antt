@@ -13,7 +13,7 @@ use Rattle.majority.specs.Rules.{plain, plainGate, exchange, majorityRule, asso
 use Rattle.majority.specs.declared.Record.{Record}
 use Rattle.majority.specs.declared.Counts.{Counts}
 use Rattle.majority.proofs.Insert.{insert-length}
-use Rattle.majority.proofs.Inserted.{GatesBelow, insert-formed}
+use Rattle.majority.proofs.Inserted.{GatesBelow, in-order, insert-formed}
 use Rattle.tables.specs.Bytes.{tableOf, putRecord}
 use Rattle.tables.specs.Sound.{tableIn}
 use Rattle.tables.proofs.Encoded.{Bytes}
@@ -88,7 +88,7 @@ module _ {xs : List ℕ} {c : Counts} {g : ℕ} (at : AtGate xs c g) where
     one-below (suc t) h = absurd (omega arith)
 
     one-formed : WellFormed (c .inputs) (c .gates + 1) (c .outputs) one
-    one-formed = insert-formed (at-is at) (p ∷ []) one-below
+    one-formed = insert-formed (at-is at) (p ∷ []) (in-order g (p ∷ []) one-below)
 
     one-room : Room 1 xs c
     one-room = omega arith
