@@ -18,8 +18,8 @@ use Rattle.majority.proofs.Logic.{both}
 use Rattle.majority.proofs.Levels.{above-least}
 use Rattle.majority.proofs.MajorityLaws.{majority-associative}
 use Rattle.majority.proofs.Gates.{gateWorth, GateOf, gate-reads, gate-node, gate-level, named-reads, named-worth, named-level}
-use Rattle.majority.proofs.Inserted.{GatesBelow, insert-edge}
-use Rattle.majority.proofs.Growth.{one-new, first-inserted, growth-kept}
+use Rattle.majority.proofs.Inserted.{GatesBelow, in-order, insert-edge}
+use Rattle.majority.proofs.Growth.{one-new, growth-kept, first-inserted, near-g}
 
 module _ {n m o g : ℕ} {rs : List Record} (is : GateOf n m o g rs) where
   abbrev r : Record
@@ -71,8 +71,8 @@ module _ {n m o g : ℕ} {rs : List Record} (is : GateOf n m o g rs) where
         let lv = gate-level is in
         let lh = named-level is (r .e3) (r-reads .third) is-plain in
         let low : gateWorth levels (level rs) new ≤ level rs g = above-least _ _ _ _ (omega (arith, lv .2, lh .0)) (lv .1) (lv .0) in
-        growth-kept is (new ∷ []) gates last refl
+        growth-kept is (new ∷ []) (in-order g (new ∷ []) gates) last refl
         (record { first = omega (arith, h-reads .third); second = omega (arith, r-reads .second); third = omega arith })
-        (one-new (λ s. gateWorth levels (level rs) s ≤ level rs g) new low)
+        (near-g is (new ∷ []) gates (one-new (λ s. gateWorth levels (level rs) s ≤ level rs g) new low))
         (λ a. before (values a) ∙ sym (majority-associative _ _ _ _) ∙ sym (after (values a)))
         (rw (after levels) (above-least _ _ _ _ (omega (arith, lv .2, lh .2)) (omega (arith, lv .1)) (omega arith)))

@@ -124,16 +124,13 @@ module _ {n m o g : ℕ} {rs : List Record} (is : GateOf n m o g rs) (news : Lis
 
 -- new gates that read none of the others
 module _ {n m o g : ℕ} {rs : List Record} (is : GateOf n m o g rs) (news : List Record) (gates : GatesBelow g news) {A : Type 0} (𝓜 : Meaning A) where
-  below : (k : ℕ) → k < g → worth 𝓜 (insert g news rs) k ≡ worth 𝓜 rs k
-  below = insert-lower is news (in-order g news gates) 𝓜
-
   -- an edge to a node below g
   pub insert-edge : (e : ℕ) → nodeOf e < g → edgeWorth 𝓜 (worth 𝓜 (insert g news rs)) e ≡ edgeWorth 𝓜 (worth 𝓜 rs) e
-  insert-edge e h = edge-agrees 𝓜 _ _ e (below (nodeOf e) h)
+  insert-edge e h = edge-agrees 𝓜 _ _ e (insert-lower is news (in-order g news gates) 𝓜 (nodeOf e) h)
 
   -- a new gate is worth what it would be worth in the table before
   pub inserted-worth : (t : ℕ) → t < length news → worth 𝓜 (insert g news rs) (g + t) ≡ gateWorth 𝓜 (worth 𝓜 rs) (recordAt news t)
-  inserted-worth t h = inserted-node is news (in-order g news gates) 𝓜 t h ∙ gate-agrees 𝓜 _ _ g _ (gates t h .1) below
+  inserted-worth t h = inserted-node is news (in-order g news gates) 𝓜 t h ∙ gate-agrees 𝓜 _ _ g _ (gates t h .1) (insert-lower is news (in-order g news gates) 𝓜)
 
   -- and so is the edge to it
   pub inserted-edge : (t : ℕ) → t < length news → edgeWorth 𝓜 (worth 𝓜 (insert g news rs)) (plain (g + t)) ≡ gateWorth 𝓜 (worth 𝓜 rs) (recordAt news t)

@@ -18,8 +18,8 @@ use Rattle.majority.proofs.Logic.{both}
 use Rattle.majority.proofs.Levels.{above-least}
 use Rattle.majority.proofs.MajorityLaws.{majority-distributive}
 use Rattle.majority.proofs.Gates.{gateWorth, GateOf, gate-reads, gate-node, gate-level, named-reads, named-worth, named-level}
-use Rattle.majority.proofs.Inserted.{GatesBelow, insert-edge}
-use Rattle.majority.proofs.Growth.{one-new, first-inserted, growth-kept}
+use Rattle.majority.proofs.Inserted.{GatesBelow, in-order, insert-edge}
+use Rattle.majority.proofs.Growth.{one-new, growth-kept, first-inserted, near-g}
 
 module _ {n m o g : ℕ} {rs : List Record} (is : GateOf n m o g rs) where
   abbrev r : Record
@@ -87,9 +87,9 @@ module _ {n m o g : ℕ} {rs : List Record} (is : GateOf n m o g rs) where
         let lp = named-level is (r .e1) (r-reads .first) (form .p-plain) in
         let lq = named-level is (r .e2) (r-reads .second) (form .q-plain) in
         let low : gateWorth levels (level rs) new ≤ level rs g = above-least _ _ _ _ (omega (arith, lv .0, lp .2)) (omega (arith, lv .1, lq .2)) (lv .2) in
-        growth-kept is (new ∷ []) gates last refl
+        growth-kept is (new ∷ []) (in-order g (new ∷ []) gates) last refl
         (record { first = omega (arith, p-reads .first); second = omega (arith, p-reads .second); third = omega arith })
-        (one-new (λ s. gateWorth levels (level rs) s ≤ level rs g) new low)
+        (near-g is (new ∷ []) gates (one-new (λ s. gateWorth levels (level rs) s ≤ level rs g) new low))
         (λ a. before (values a) ∙ majority-distributive _ _ _ _ _ ∙ sym (after (values a)))
         (rw (after levels) (above-least _ _ _ _ (omega (arith, lv .0, lp .0)) (omega (arith, lv .0, lp .1)) (omega arith)))
 

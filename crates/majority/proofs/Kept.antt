@@ -1,4 +1,4 @@
--- `Kept` holds of no step at all, and of steps one after another; so does `NodesKept`.
+-- `Kept` holds of no step at all; it and `NodesKept` hold of steps one after another.
 use Prim.Native.Nat.{ℕ, suc, _+_, _-_, _≤_, _<_}
 use mathlib.Core.Path.{_≡_, refl, ap, _∙_}
 use mathlib.Core.Bool.{Bool, true, false, _&&_}

@@ -15,8 +15,8 @@ use Rattle.majority.specs.declared.Record.{Record}
 use Rattle.majority.proofs.Levels.{above-least}
 use Rattle.majority.proofs.MajorityLaws.{majority-distributive}
 use Rattle.majority.proofs.Gates.{gateWorth, GateOf, gate-reads, gate-node, gate-level, named-reads, named-worth, named-level}
-use Rattle.majority.proofs.Inserted.{GatesBelow, insert-edge, inserted-edge}
-use Rattle.majority.proofs.Growth.{two-new, first-inserted, growth-kept}
+use Rattle.majority.proofs.Inserted.{GatesBelow, in-order, insert-edge, inserted-edge}
+use Rattle.majority.proofs.Growth.{two-new, growth-kept, first-inserted, near-g}
 
 module _ {n m o g : ℕ} {rs : List Record} (is : GateOf n m o g rs) where
   abbrev r : Record
@@ -75,8 +75,8 @@ module _ {n m o g : ℕ} {rs : List Record} (is : GateOf n m o g rs) where
         let lh = named-level is (r .e3) (r-reads .third) is-plain in
         let low-p : gateWorth levels (level rs) p ≤ level rs g = above-least _ _ _ _ (lv .0) (lv .1) (omega (arith, lv .2, lh .0)) in
         let low-q : gateWorth levels (level rs) q ≤ level rs g = above-least _ _ _ _ (lv .0) (lv .1) (omega (arith, lv .2, lh .1)) in
-        growth-kept is (p ∷ q ∷ []) gates last refl
+        growth-kept is (p ∷ q ∷ []) (in-order g (p ∷ q ∷ []) gates) last refl
         (record { first = omega arith; second = omega arith; third = omega (arith, h-reads .third) })
-        (two-new (λ s. gateWorth levels (level rs) s ≤ level rs g) p q low-p low-q)
+        (near-g is (p ∷ q ∷ []) gates (two-new (λ s. gateWorth levels (level rs) s ≤ level rs g) p q low-p low-q))
         (λ a. before (values a) ∙ sym (majority-distributive _ _ _ _ _) ∙ sym (after (values a)))
         (rw (after levels) (above-least _ _ _ _ (omega arith) (omega arith) (omega (arith, lv .2, lh .2))))
