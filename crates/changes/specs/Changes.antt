@@ -7,7 +7,7 @@ use Rattle.majority.specs.If.{if_then_else_}
 use Rattle.majority.specs.Edge.{flip}
 use Rattle.majority.specs.Table.{gate}
 use Rattle.majority.specs.Edit.{edges, nodeRecord}
-use Rattle.majority.specs.Rules.{plain, named, exchanged, majorityEdge}
+use Rattle.rules.specs.Rules.{plain, named, exchanged, majorityEdge}
 use Rattle.majority.specs.declared.Record.{Record}
 use Rattle.tables.specs.Bytes.{recordsOf, putRecord}
 use Rattle.editing.specs.Edited.{redirectedFrom, insertedAt}

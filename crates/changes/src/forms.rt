@@ -12,7 +12,7 @@ use rules::majority_form;
 use rules::outward_form;
 use rules::share_form;
 ghost use mathlib.Core.Path.{_≡_};
-ghost use Rattle.majority.specs.Step.{hasForm};
+ghost use Rattle.rules.specs.Step.{hasForm};
 ghost use Rattle.tables.specs.Bytes.{recordsOf};
 
 // The gate has the rule's form, among so many inputs. The rules that ask for none are exchange, inversion and sweep.

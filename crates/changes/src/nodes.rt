@@ -5,7 +5,7 @@ use tables::record_at;
 ghost use mathlib.Core.Path.{_≡_};
 ghost use Prim.Native.Nat.{_-_};
 ghost use Rattle.majority.specs.Edit.{nodeRecord};
-ghost use Rattle.majority.specs.Rules.{named};
+ghost use Rattle.rules.specs.Rules.{named};
 ghost use Rattle.tables.specs.Bytes.{recordsOf};
 
 // Where a node's record stands. The constant has none; its place is that of the first.

@@ -8,12 +8,12 @@ use lib.Dec.{ltb}
 use lib.ListN.{length}
 use Rattle.majority.specs.If.{if_then_else_}
 use Rattle.majority.specs.Check.{Reply, accepted, refused, andThen}
-use Rattle.majority.specs.Translate.{translation, operations}
+use Rattle.translation.specs.Translate.{translation, operations}
 use Rattle.majority.specs.declared.Record.{Record}
 use Rattle.majority.specs.declared.Counts.{Counts}
-use Rattle.majority.proofs.Rm3Formed.{translated-formed}
-use Rattle.majority.proofs.Rm3Laws.{translated-outputs, translated-depth}
-use Rattle.majority.proofs.Rm3Size.{translated-size}
+use Rattle.translation.proofs.Rm3Formed.{translated-formed}
+use Rattle.translation.proofs.Rm3Laws.{translated-outputs, translated-depth}
+use Rattle.translation.proofs.Rm3Size.{translated-size}
 use Rattle.rm3.specs.Calls.{rm3In, rm3Of}
 use Rattle.demands.specs.Demand3.{After, tableAfter, Keeps, KeepsRm3, Demand3, Demand3Rm3}
 use Rattle.demands.proofs.Demand3.{demand-3}

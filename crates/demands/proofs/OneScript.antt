@@ -9,7 +9,7 @@ use lib.ListN.{length, take}
 use Rattle.majority.specs.If.{if_then_else_}
 use Rattle.majority.specs.Check.{counts, Reply, accepted, refused}
 use Rattle.majority.specs.declared.Record.{Record}
-use Rattle.majority.proofs.Kept.{kept-then}
+use Rattle.rules.proofs.Kept.{kept-then}
 use Rattle.tables.specs.Calls.{checkOf}
 use Rattle.rewriting.specs.Script.{Run, stopped, stepsOf, replyTo, bytesAfter, byReply, runFrom, untaken, scriptRun}
 use Rattle.demands.specs.Demand3.{deepening, deepeningTaken}

@@ -7,13 +7,13 @@ use borrow.Author.Tests.{le-ltb, eq-eqb}
 use lib.ListN.{length, length-append, length-drop, length-replicate}
 use lib.Seq.{ext-getD}
 use Rattle.majority.specs.Table.{blank}
-use Rattle.majority.specs.Kept.{Kept}
+use Rattle.rules.specs.Kept.{Kept}
 use Rattle.majority.specs.Check.{counts, Reply, accepted, refused, andThen, checkRecords, count}
-use Rattle.majority.specs.Step.{step, deepens}
+use Rattle.rules.specs.Step.{step, deepens}
 use Rattle.majority.specs.declared.Record.{Record}
 use Rattle.majority.proofs.Accepted.{Accepted, acceptance, accepts}
-use Rattle.majority.proofs.Kept.{kept-same}
-use Rattle.majority.proofs.Steps.{step-kept, step-fits, step-accepted}
+use Rattle.rules.proofs.Kept.{kept-same}
+use Rattle.rules.proofs.Steps.{step-kept, step-fits, step-accepted}
 use Rattle.tables.specs.Bytes.{tableOf}
 use Rattle.tables.specs.Calls.{checkOf}
 use Rattle.tables.proofs.Decoded.{length-table, table-at}

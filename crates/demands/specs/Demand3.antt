@@ -8,8 +8,8 @@ use Rattle.majority.specs.Value.{outputValue}
 use Rattle.majority.specs.Level.{depth}
 use Rattle.majority.specs.Check.{accepted, counts}
 use Rattle.majority.specs.Edit.{nodeRecord}
-use Rattle.majority.specs.Step.{deepens}
-use Rattle.majority.specs.Rm3.{WellFormed3, outputValue3, depth3}
+use Rattle.rules.specs.Step.{deepens}
+use Rattle.translation.specs.Rm3.{WellFormed3, outputValue3, depth3}
 use Rattle.majority.specs.declared.Record.{Record}
 use Rattle.tables.specs.Bytes.{tableOf}
 use Rattle.tables.specs.Calls.{checkOf}

@@ -7,10 +7,3 @@ pub mod Level
 pub mod Seek
 pub mod Check
 pub mod Edit
-pub mod Sweep
-pub mod Rules
-pub mod Step
-pub mod Kept
-pub mod Rm3
-pub mod Translate
-pub mod Count3

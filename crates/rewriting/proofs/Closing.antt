@@ -8,12 +8,12 @@ use native.Mathlib.Decide.{ℕ-discrete}
 use lib.ListN.{length, getD, set}
 use Rattle.majority.specs.Table.{recordAt, Below, WellFormed}
 use Rattle.majority.specs.Edit.{edges}
-use Rattle.majority.specs.Sweep.{reached, stays, renumber, sweep}
+use Rattle.rules.specs.Sweep.{reached, stays, renumber, sweep}
 use Rattle.majority.specs.declared.Record.{Record}
 use Rattle.majority.specs.declared.Counts.{Counts}
 use Rattle.majority.proofs.Formed.{reads-lower}
-use Rattle.majority.proofs.KeptNodes.{renumber-zero}
-use Rattle.majority.proofs.Sweep.{input-stays, gate-stays}
+use Rattle.rules.proofs.KeptNodes.{renumber-zero}
+use Rattle.rules.proofs.Sweep.{input-stays, gate-stays}
 use Rattle.tables.specs.Bytes.{recordIn, tableOf, putRecord}
 use Rattle.tables.specs.Sound.{Sound, tableIn}
 use Rattle.tables.proofs.Put.{put-length, put-same, put-other, put-rest}

@@ -3,12 +3,12 @@ use Prim.Native.Nat.{ℕ, zero, suc, _+_, _≤_}
 use mathlib.Core.Path.{_≡_, ap}
 use mathlib.Core.List.{List}
 use native.Mathlib.Omega.{arith}
-use Rattle.majority.specs.Rules.{outwardForm}
-use Rattle.majority.specs.Sweep.{sweep}
-use Rattle.majority.specs.Step.{hasForm, rewritten}
+use Rattle.rules.specs.Rules.{outwardForm}
+use Rattle.rules.specs.Sweep.{sweep}
+use Rattle.rules.specs.Step.{hasForm, rewritten}
 use Rattle.majority.specs.declared.Record.{Record}
 use Rattle.majority.specs.declared.Counts.{Counts}
-use Rattle.majority.proofs.Taken.{known-rule, share-field}
+use Rattle.rules.proofs.Taken.{known-rule, share-field}
 use Rattle.tables.specs.Sound.{tableIn}
 use Rattle.tables.proofs.Encoded.{Bytes}
 use Rattle.editing.specs.Edited.{holding}

@@ -10,14 +10,14 @@ use lib.ListN.{length}
 use Rattle.majority.specs.Edge.{nodeOf, isInverted}
 use Rattle.majority.specs.Table.{gate, Below, WellFormed}
 use Rattle.majority.specs.Edit.{nodeRecord}
-use Rattle.majority.specs.Rules.{plainGate, named, majorityForm, associativityForm, outwardForm, inwardForm, shareForm}
-use Rattle.majority.specs.Step.{badRule, fieldsFit, hasForm}
+use Rattle.rules.specs.Rules.{plainGate, named, majorityForm, associativityForm, outwardForm, inwardForm, shareForm}
+use Rattle.rules.specs.Step.{badRule, fieldsFit, hasForm}
 use Rattle.majority.specs.declared.Record.{Record}
 use Rattle.majority.specs.declared.Counts.{Counts}
 use Rattle.majority.proofs.Logic.{both}
 use Rattle.majority.proofs.Formed.{reads-lower}
-use Rattle.majority.proofs.Gates.{GateOf}
-use Rattle.majority.proofs.Taken.{known-rule, gate-field, share-field}
+use Rattle.rules.proofs.GateNodes.{GateOf}
+use Rattle.rules.proofs.Taken.{known-rule, gate-field, share-field}
 use Rattle.tables.specs.Sound.{Sound, tableIn}
 use Rattle.tables.proofs.Decoded.{length-table}
 use Rattle.tables.proofs.Sound.{sound-accepted, read-record}

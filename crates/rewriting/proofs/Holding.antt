@@ -9,11 +9,11 @@ use lib.ListN.{length, set, length-set, length-map}
 use Rattle.majority.specs.Edge.{redirect}
 use Rattle.majority.specs.Table.{WellFormed}
 use Rattle.majority.specs.Edit.{edges, nodeRecord, redirectAll, insert, become}
-use Rattle.majority.specs.Rules.{plain, plainGate, exchange, majorityRule, associativity, outward, inward, inversion, share}
+use Rattle.rules.specs.Rules.{plain, plainGate, exchange, majorityRule, associativity, outward, inward, inversion, share}
 use Rattle.majority.specs.declared.Record.{Record}
 use Rattle.majority.specs.declared.Counts.{Counts}
-use Rattle.majority.proofs.Insert.{insert-length}
-use Rattle.majority.proofs.Inserted.{GatesBelow, in-order, insert-formed}
+use Rattle.rules.proofs.Insert.{insert-length}
+use Rattle.rules.proofs.InsertNodes.{GatesBelow, in-order, insert-formed}
 use Rattle.tables.specs.Bytes.{tableOf, putRecord}
 use Rattle.tables.specs.Sound.{tableIn}
 use Rattle.tables.proofs.Encoded.{Bytes}

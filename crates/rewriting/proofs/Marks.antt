@@ -11,11 +11,11 @@ use lib.Seq.{drop-cons, getD-set-same, getD-set-other}
 use Rattle.majority.specs.If.{if_then_else_}
 use Rattle.majority.specs.Edge.{nodeOf}
 use Rattle.majority.specs.Table.{blank, recordAt, Below, WellFormed}
-use Rattle.majority.specs.Sweep.{member, reached}
+use Rattle.rules.specs.Sweep.{member, reached}
 use Rattle.majority.specs.declared.Record.{Record}
 use Rattle.majority.specs.declared.Counts.{Counts}
 use Rattle.majority.proofs.Formed.{below-more, reads-nodes}
-use Rattle.majority.proofs.Reached.{member-here, member-other}
+use Rattle.rules.proofs.Reached.{member-here, member-other}
 use Rattle.tables.specs.Bytes.{tableOf}
 use Rattle.tables.specs.Sound.{Sound, tableIn, Fresh}
 use Rattle.tables.proofs.Sound.{sound-accepted, sound-record}

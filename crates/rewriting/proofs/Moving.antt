@@ -7,11 +7,11 @@ use native.Mathlib.Decide.{decLt, ℕ-discrete}
 use lib.ListN.{length}
 use Rattle.majority.specs.Table.{recordAt, Below, WellFormed}
 use Rattle.majority.specs.Edit.{edges}
-use Rattle.majority.specs.Sweep.{sweep}
+use Rattle.rules.specs.Sweep.{sweep}
 use Rattle.majority.specs.declared.Record.{Record}
 use Rattle.majority.specs.declared.Counts.{Counts}
 use Rattle.majority.proofs.Formed.{below-more, reads-nodes}
-use Rattle.majority.proofs.Sweep.{output-stays}
+use Rattle.rules.proofs.Sweep.{output-stays}
 use Rattle.tables.specs.Bytes.{recordIn, tableOf, putRecord}
 use Rattle.tables.specs.Sound.{Sound, tableIn}
 use Rattle.tables.proofs.Put.{put-length, put-same, put-other, put-rest}

@@ -12,11 +12,11 @@ use lib.Seq.{getD-set-same, getD-set-other}
 use Rattle.majority.specs.Edge.{nodeOf}
 use Rattle.majority.specs.Table.{recordAt, Below, WellFormed}
 use Rattle.majority.specs.Edit.{edges}
-use Rattle.majority.specs.Sweep.{stays, renumber, sweep}
+use Rattle.rules.specs.Sweep.{stays, renumber, sweep}
 use Rattle.majority.specs.declared.Record.{Record}
-use Rattle.majority.proofs.KeptNodes.{kept-in, kept-out, kept-lower}
-use Rattle.majority.proofs.CloseUp.{inputs-stay, outputs-move, closed-at}
-use Rattle.majority.proofs.Sweep.{left, keepable}
+use Rattle.rules.proofs.KeptNodes.{kept-in, kept-out, kept-lower}
+use Rattle.rules.proofs.CloseUp.{inputs-stay, outputs-move, closed-at}
+use Rattle.rules.proofs.Sweep.{left, keepable}
 use Rattle.tables.specs.Sound.{Fresh}
 use Rattle.rewriting.specs.Closing.{newNumber, Numbered, renumberBy}
 

@@ -10,7 +10,7 @@ use Rattle.majority.specs.Check.{Reply, accepted, refused, andThen, count}
 use Rattle.majority.specs.declared.Record.{Record}
 use Rattle.majority.specs.declared.Counts.{Counts}
 use Rattle.majority.proofs.Accepted.{accepts}
-use Rattle.majority.proofs.Steps.{step-fits, step-accepted}
+use Rattle.rules.proofs.Steps.{step-fits, step-accepted}
 use Rattle.tables.specs.Bytes.{tableOf}
 use Rattle.tables.specs.Sound.{Sound}
 use Rattle.tables.proofs.Decoded.{length-table, table-at}

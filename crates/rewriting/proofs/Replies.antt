@@ -6,10 +6,10 @@ use native.Mathlib.Omega.{arith}
 use borrow.Author.Tests.{eq-eqb, le-ltb}
 use lib.ListN.{length}
 use Rattle.majority.specs.Check.{Reply, accepted, refused, andThen, count}
-use Rattle.majority.specs.Step.{step}
+use Rattle.rules.specs.Step.{step}
 use Rattle.majority.specs.declared.Record.{Record}
 use Rattle.majority.specs.declared.Counts.{Counts}
-use Rattle.majority.proofs.Steps.{step-kept, step-gates}
+use Rattle.rules.proofs.Steps.{step-kept, step-gates}
 use Rattle.tables.specs.Calls.{checkOf}
 use Rattle.tables.specs.Sound.{Sound}
 use Rattle.tables.specs.Said.{refusalNumber, refusalRecord, saidCheck}

@@ -9,12 +9,12 @@ use lib.ListN.{length, replicate, length-append, length-replicate, getD-replicat
 use lib.Seq.{ext-getD, getD-append-add}
 use Rattle.majority.specs.Table.{blank, recordAt, WellFormed}
 use Rattle.majority.specs.Check.{count}
-use Rattle.majority.specs.Sweep.{sweep}
+use Rattle.rules.specs.Sweep.{sweep}
 use Rattle.majority.specs.declared.Record.{Record}
 use Rattle.majority.specs.declared.Counts.{Counts}
 use Rattle.majority.proofs.Order.{order-counts}
 use Rattle.majority.proofs.Accepted.{order-of}
-use Rattle.majority.proofs.Sweep.{left, left-fewer, sweep-kept}
+use Rattle.rules.proofs.Sweep.{left, left-fewer, sweep-kept}
 use Rattle.tables.specs.Bytes.{tableOf}
 use Rattle.tables.specs.Sound.{Sound, tableIn}
 use Rattle.tables.proofs.Decoded.{length-table, table-at}

@@ -10,15 +10,15 @@ use lib.ListN.{length}
 use Rattle.majority.specs.If.{if_then_else_}
 use Rattle.majority.specs.Table.{WellFormed}
 use Rattle.majority.specs.Check.{accepted, refused, count}
-use Rattle.majority.specs.Sweep.{sweep}
-use Rattle.majority.specs.Step.{badRule, fieldsFit, hasForm, inserted, rewritten, step}
+use Rattle.rules.specs.Sweep.{sweep}
+use Rattle.rules.specs.Step.{badRule, fieldsFit, hasForm, inserted, rewritten, step}
 use Rattle.majority.specs.declared.Record.{Record}
 use Rattle.majority.specs.declared.Counts.{Counts}
-use Rattle.majority.proofs.Taken.{taken-step}
+use Rattle.rules.proofs.Taken.{taken-step}
 use Rattle.majority.proofs.Order.{order-counts}
 use Rattle.majority.proofs.Accepted.{order-of}
-use Rattle.majority.proofs.Sweep.{left-fewer, sweep-kept}
-use Rattle.majority.proofs.Steps.{gatesAfter, step-count, step-kept}
+use Rattle.rules.proofs.Sweep.{left-fewer, sweep-kept}
+use Rattle.rules.proofs.Steps.{gatesAfter, step-count, step-kept}
 use Rattle.tables.specs.Sound.{Sound, tableIn}
 use Rattle.tables.specs.Said.{refusalNumber, refusalRecord}
 use Rattle.tables.specs.declared.Refusal.{Refusal}

@@ -10,8 +10,8 @@ use Rattle.majority.specs.Edge.{nodeOf, raise}
 use Rattle.majority.specs.Table.{recordOf, blank, recordAt, WellFormed}
 use Rattle.majority.specs.Edit.{edges, insert}
 use Rattle.majority.specs.declared.Record.{Record}
-use Rattle.majority.proofs.Raise.{raised-from, raise-below, raise-from}
-use Rattle.majority.proofs.Insert.{insert-length, insert-old, insert-new, insert-below}
+use Rattle.rules.proofs.Raise.{raised-from, raise-below, raise-from}
+use Rattle.rules.proofs.Insert.{insert-length, insert-old, insert-new, insert-below}
 
 raise-twice : (g x : ℕ) → raise (g + 1) 1 (raise g 1 x) ≡ raise g 2 x
 raise-twice g x = go (decLt (nodeOf x) g)

@@ -4,7 +4,7 @@ use mathlib.Core.Path.{_≡_}
 use mathlib.Core.List.{List, _++_}
 use lib.ListN.{length, drop, replicate}
 use Rattle.majority.specs.Check.{Reply, accepted, refused, andThen, count}
-use Rattle.majority.specs.Step.{rewritten, step}
+use Rattle.rules.specs.Step.{rewritten, step}
 use Rattle.majority.specs.declared.Record.{Record}
 use Rattle.majority.specs.declared.Counts.{Counts}
 use Rattle.tables.specs.Bytes.{encode}

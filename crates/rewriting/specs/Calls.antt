@@ -3,7 +3,7 @@ use Prim.Native.Nat.{ℕ, _*_, _/_}
 use mathlib.Core.List.{List}
 use lib.ListN.{length}
 use Rattle.majority.specs.Check.{Reply, accepted, refused, andThen}
-use Rattle.majority.specs.Step.{step}
+use Rattle.rules.specs.Step.{step}
 use Rattle.majority.specs.declared.Record.{Record}
 use Rattle.tables.specs.Bytes.{tableOf}
 use Rattle.tables.specs.Calls.{checkOf}

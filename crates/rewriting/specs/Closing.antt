@@ -6,7 +6,7 @@ use lib.ListN.{length, getD, drop}
 use Rattle.majority.specs.Edge.{nodeOf}
 use Rattle.majority.specs.Table.{recordAt, Below}
 use Rattle.majority.specs.Edit.{edges}
-use Rattle.majority.specs.Sweep.{stays, kept, sweep}
+use Rattle.rules.specs.Sweep.{stays, kept, sweep}
 use Rattle.majority.specs.declared.Record.{Record}
 use Rattle.majority.specs.declared.Counts.{Counts}
 use Rattle.tables.specs.Bytes.{recordIn}

@@ -5,7 +5,7 @@ use mathlib.Core.Bool.{Bool, true, false}
 use mathlib.Core.List.{List}
 use lib.ListN.{length, getD, drop, set}
 use Rattle.majority.specs.Edge.{nodeOf}
-use Rattle.majority.specs.Sweep.{member, reachedFrom}
+use Rattle.rules.specs.Sweep.{member, reachedFrom}
 use Rattle.majority.specs.declared.Record.{Record}
 
 -- the nodes that the records of t from record i on reach

@@ -4,7 +4,7 @@ use mathlib.Core.Path.{_≡_}
 use mathlib.Core.Bool.{true, false}
 use mathlib.Core.List.{List}
 use lib.ListN.{length}
-use Rattle.majority.specs.Step.{badRule, fieldsFit, hasForm, inserted}
+use Rattle.rules.specs.Step.{badRule, fieldsFit, hasForm, inserted}
 use Rattle.majority.specs.declared.Counts.{Counts}
 use Rattle.tables.specs.Sound.{Sound, tableIn}
 

@@ -5,7 +5,7 @@ use mathlib.Core.List.{List, _++_}
 use lib.ListN.{replicate}
 use Rattle.majority.specs.Table.{blank}
 use Rattle.majority.specs.Check.{count}
-use Rattle.majority.specs.Sweep.{sweep}
+use Rattle.rules.specs.Sweep.{sweep}
 use Rattle.majority.specs.declared.Counts.{Counts}
 use Rattle.tables.specs.Sound.{tableIn}
 use Rattle.editing.specs.Edited.{holding}

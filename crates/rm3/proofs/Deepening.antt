@@ -9,14 +9,14 @@ use Rattle.majority.specs.If.{if_then_else_}
 use Rattle.majority.specs.Edge.{nodeOf}
 use Rattle.majority.specs.Table.{output, recordAt}
 use Rattle.majority.specs.Level.{highest}
-use Rattle.majority.specs.Rm3.{level3, depth3}
-use Rattle.majority.specs.Translate.{Outputs3, classOf, needsHelper, place, translation, operations}
+use Rattle.translation.specs.Rm3.{level3, depth3}
+use Rattle.translation.specs.Translate.{Outputs3, classOf, needsHelper, place, translation, operations}
 use Rattle.majority.specs.declared.Record.{Record}
 use Rattle.majority.specs.declared.Counts.{Counts}
-use Rattle.majority.proofs.Rm3Place.{place-begins}
-use Rattle.majority.proofs.Rm3Formed.{translated, translated-formed}
-use Rattle.majority.proofs.Rm3Operands.{node-operands}
-use Rattle.majority.proofs.Rm3Levels.{level3-at-most}
+use Rattle.translation.proofs.Rm3Place.{place-begins}
+use Rattle.translation.proofs.Rm3Formed.{translated, translated-formed}
+use Rattle.translation.proofs.Rm3Operands.{node-operands}
+use Rattle.translation.proofs.Rm3Levels.{level3-at-most}
 use Rattle.tables.specs.Sound.{Sound, tableIn}
 use Rattle.tables.proofs.Sound.{sound-accepted, sound-formed}
 use Rattle.rm3.specs.Turned.{Named}

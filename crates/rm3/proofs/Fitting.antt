@@ -5,11 +5,11 @@ use mathlib.Core.List.{List}
 use native.Mathlib.Omega.{arith}
 use borrow.Author.Tests.{lt-ltb, le-ltb}
 use lib.ListN.{length}
-use Rattle.majority.specs.Translate.{translation}
+use Rattle.translation.specs.Translate.{translation}
 use Rattle.majority.specs.Check.{accepted, refused}
 use Rattle.majority.specs.declared.Counts.{Counts}
-use Rattle.majority.proofs.Rm3Formed.{translated-formed}
-use Rattle.majority.proofs.Rm3Size.{translated-size}
+use Rattle.translation.proofs.Rm3Formed.{translated-formed}
+use Rattle.translation.proofs.Rm3Size.{translated-size}
 use Rattle.tables.specs.Sound.{Sound, tableIn}
 use Rattle.tables.proofs.Sound.{sound-accepted, sound-formed}
 use Rattle.rm3.specs.Calls.{rm3In}

@@ -10,9 +10,9 @@ use Rattle.majority.specs.Node.{byKind}
 use Rattle.majority.specs.declared.Record.{Record}
 use Rattle.majority.specs.declared.Counts.{Counts}
 use Rattle.majority.proofs.Formed.{reads-lower}
-use Rattle.majority.specs.Translate.{after}
-use Rattle.majority.proofs.Rm3Nodes.{named}
-use Rattle.majority.proofs.Rm3Size.{translated-size}
+use Rattle.translation.specs.Translate.{after}
+use Rattle.translation.proofs.Rm3Nodes.{named}
+use Rattle.translation.proofs.Rm3Size.{translated-size}
 use Rattle.tables.specs.Sound.{Sound, tableIn, Fresh}
 use Rattle.tables.proofs.Sound.{sound-accepted, sound-formed}
 use Rattle.rm3.specs.Laid.{Writes, operandsIn, Gone}

@@ -7,9 +7,9 @@ use native.Mathlib.Decide.{decLt}
 use lib.ListN.{length, drop, length-append, List·getD-append}
 use lib.Seq.{drop-drop, ext-getD, getD-append-add}
 use Rattle.majority.specs.Table.{blank, recordAt}
-use Rattle.majority.specs.Translate.{Placed}
+use Rattle.translation.specs.Translate.{Placed}
 use Rattle.majority.specs.declared.Record.{Record}
-use Rattle.majority.proofs.Begins.{all-more, length-more}
+use Rattle.translation.proofs.Begins.{all-more, length-more}
 use Rattle.tables.specs.Bytes.{recordIn, tableOf, encode, putRecord}
 use Rattle.tables.proofs.Decoded.{length-table, table-at}
 use Rattle.tables.proofs.Encoded.{Bytes, as-encoded}

@@ -11,19 +11,19 @@ use lib.Seq.{getD-set-same, getD-set-other, getD-append-seam}
 use Rattle.majority.specs.Edge.{nodeOf}
 use Rattle.majority.specs.Table.{blank, input, recordAt}
 use Rattle.majority.specs.Level.{levels, highest}
-use Rattle.majority.specs.Rm3.{level3}
-use Rattle.majority.specs.Translate.{after, gate3, translation}
+use Rattle.translation.specs.Rm3.{level3}
+use Rattle.translation.specs.Translate.{after, gate3, translation}
 use Rattle.majority.specs.declared.Record.{Record}
 use Rattle.majority.specs.declared.Counts.{Counts}
-use Rattle.majority.proofs.Begins.{Begins, length-more}
+use Rattle.translation.proofs.Begins.{Begins, length-more}
 use Rattle.majority.proofs.Formed.{kind-two}
 use Rattle.majority.proofs.Levels.{above-each}
-use Rattle.majority.proofs.Rm3Worth.{false-worth, input3-eq}
-use Rattle.majority.proofs.Rm3Gate.{middleOf, gate-begins}
-use Rattle.majority.proofs.Rm3Nodes.{named}
-use Rattle.majority.proofs.Rm3Formed.{translated-formed}
-use Rattle.majority.proofs.Rm3Operands.{constant-operand, input-operand}
-use Rattle.majority.proofs.Rm3Levels.{level3-at-most}
+use Rattle.translation.proofs.Rm3Worth.{false-worth, input3-eq}
+use Rattle.translation.proofs.Rm3Gate.{middleOf, gate-begins}
+use Rattle.translation.proofs.Rm3Nodes.{named}
+use Rattle.translation.proofs.Rm3Formed.{translated-formed}
+use Rattle.translation.proofs.Rm3Operands.{constant-operand, input-operand}
+use Rattle.translation.proofs.Rm3Levels.{level3-at-most}
 use Rattle.tables.specs.Sound.{Sound, tableIn, Fresh}
 use Rattle.tables.proofs.Sound.{sound-accepted, sound-formed}
 use Rattle.rm3.specs.Turned.{Turned}

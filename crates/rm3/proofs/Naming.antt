@@ -6,12 +6,12 @@ use mathlib.Core.List.{List, [], _∷_, _++_}
 use native.Mathlib.Omega.{arith}
 use lib.ListN.{length, take, drop, length-append}
 use Rattle.majority.specs.Table.{output, recordAt}
-use Rattle.majority.specs.Translate.{place, parts3, translation}
+use Rattle.translation.specs.Translate.{place, parts3, translation}
 use Rattle.majority.specs.Check.{accepted}
 use Rattle.majority.specs.declared.Record.{Record}
 use Rattle.majority.specs.declared.Counts.{Counts}
 use Rattle.majority.proofs.Formed.{reads-nodes}
-use Rattle.majority.proofs.Rm3Formed.{translated}
+use Rattle.translation.proofs.Rm3Formed.{translated}
 use Rattle.tables.specs.Bytes.{putRecord}
 use Rattle.tables.specs.Sound.{Sound, tableIn}
 use Rattle.tables.proofs.Encoded.{Bytes}

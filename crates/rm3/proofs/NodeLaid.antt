@@ -4,7 +4,7 @@ use mathlib.Core.Path.{_≡_, refl}
 use mathlib.Core.List.{List}
 use Rattle.majority.specs.Table.{input}
 use Rattle.majority.specs.Node.{byKind}
-use Rattle.majority.specs.Translate.{after, gate3}
+use Rattle.translation.specs.Translate.{after, gate3}
 use Rattle.majority.specs.declared.Record.{Record}
 use Rattle.majority.proofs.Formed.{kind-two}
 use Rattle.tables.specs.Bytes.{putRecord}

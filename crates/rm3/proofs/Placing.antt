@@ -9,8 +9,8 @@ use lib.Seq.{getD-take}
 use Rattle.majority.specs.If.{if_then_else_}
 use Rattle.majority.specs.Edge.{nodeOf, isInverted}
 use Rattle.majority.specs.Table.{Below}
-use Rattle.majority.specs.Rm3.{operation}
-use Rattle.majority.specs.Translate.{constant, plain, inverted, classOf, isConstant, needsHelper, place, gate3}
+use Rattle.translation.specs.Rm3.{operation}
+use Rattle.translation.specs.Translate.{constant, plain, inverted, classOf, isConstant, needsHelper, place, gate3}
 use Rattle.majority.specs.declared.Record.{Record}
 
 pub class-constant : (e : ℕ) → nodeOf e ≡ 0 → classOf e ≡ constant

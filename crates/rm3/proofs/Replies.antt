@@ -8,7 +8,7 @@ use borrow.Author.Tests.{ltb-false}
 use lib.Dec.{ltb}
 use lib.ListN.{length}
 use Rattle.majority.specs.If.{if_then_else_}
-use Rattle.majority.specs.Translate.{translation}
+use Rattle.translation.specs.Translate.{translation}
 use Rattle.majority.specs.Check.{Reply, accepted, refused, andThen}
 use Rattle.majority.specs.declared.Record.{Record}
 use Rattle.majority.specs.declared.Counts.{Counts}

@@ -6,13 +6,13 @@ use mathlib.Core.List.{List, [], _∷_, _++_}
 use native.Mathlib.Omega.{arith}
 use lib.ListN.{length, take, drop}
 use Rattle.majority.specs.Table.{blank, output, recordAt, WellFormed}
-use Rattle.majority.specs.Translate.{after, Nodes3, place, outputs3, parts3, translation, operations}
+use Rattle.translation.specs.Translate.{after, Nodes3, place, outputs3, parts3, translation, operations}
 use Rattle.majority.specs.declared.Record.{Record}
-use Rattle.majority.proofs.Begins.{Begins, begins-then, begins-append, length-more}
-use Rattle.majority.proofs.Rm3Nodes.{named, nodes-begin}
-use Rattle.majority.proofs.Rm3Outputs.{outputs-begin}
-use Rattle.majority.proofs.Rm3Formed.{operandsOf, translated}
-use Rattle.majority.proofs.Rm3Turns.{turn, nodes-end, output-turn, outputs-end}
+use Rattle.translation.proofs.Begins.{Begins, begins-then, begins-append, length-more}
+use Rattle.translation.proofs.Rm3Nodes.{named, nodes-begin}
+use Rattle.translation.proofs.Rm3Outputs.{outputs-begin}
+use Rattle.translation.proofs.Rm3Formed.{operandsOf, translated}
+use Rattle.translation.proofs.Rm3Turns.{turn, nodes-end, output-turn, outputs-end}
 use Rattle.rm3.specs.Turned.{Turned, Named}
 
 pub turned-start : (n m : ℕ) (rs : List Record) → Turned n m rs 0 (0 ∷ []) []

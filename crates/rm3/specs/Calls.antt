@@ -5,8 +5,8 @@ use lib.ListN.{length, drop}
 use lib.Dec.{ltb}
 use Rattle.majority.specs.If.{if_then_else_}
 use Rattle.majority.specs.Check.{Reply, accepted, refused, andThen}
-use Rattle.majority.specs.Rm3.{depth3}
-use Rattle.majority.specs.Translate.{translation, operations}
+use Rattle.translation.specs.Rm3.{depth3}
+use Rattle.translation.specs.Translate.{translation, operations}
 use Rattle.majority.specs.declared.Record.{Record}
 use Rattle.majority.specs.declared.Counts.{Counts}
 use Rattle.tables.specs.Bytes.{tableOf, encode}

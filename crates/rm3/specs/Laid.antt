@@ -4,7 +4,7 @@ use mathlib.Core.Path.{_≡_}
 use mathlib.Core.List.{List, []}
 use lib.ListN.{length, take, drop}
 use Rattle.majority.specs.Table.{recordAt}
-use Rattle.majority.specs.Translate.{Placed, parts3, operations}
+use Rattle.translation.specs.Translate.{Placed, parts3, operations}
 use Rattle.majority.specs.declared.Record.{Record}
 use Rattle.majority.specs.declared.Counts.{Counts}
 use Rattle.tables.specs.Bytes.{recordIn}

@@ -8,9 +8,9 @@ use lib.ListN.{length, getD}
 use Rattle.majority.specs.If.{if_then_else_}
 use Rattle.majority.specs.Edge.{nodeOf}
 use Rattle.majority.specs.Level.{above, highest}
-use Rattle.majority.specs.Rm3.{level3}
-use Rattle.majority.specs.Translate.{classOf, middle, needsHelper, translation}
-use Rattle.majority.specs.Count3.{helperCount}
+use Rattle.translation.specs.Rm3.{level3}
+use Rattle.translation.specs.Translate.{classOf, middle, needsHelper, translation}
+use Rattle.translation.specs.Count3.{helperCount}
 use Rattle.majority.specs.declared.Record.{Record}
 use Rattle.majority.specs.declared.Counts.{Counts}
 use Rattle.rm3.specs.Turned.{Turned}

@@ -3,7 +3,7 @@ use Prim.Native.Nat.{ℕ, suc, _+_}
 use mathlib.Core.Path.{_≡_}
 use mathlib.Core.List.{List, [], _∷_}
 use lib.ListN.{length, take, drop}
-use Rattle.majority.specs.Translate.{nodes3, outputs3, parts3}
+use Rattle.translation.specs.Translate.{nodes3, outputs3, parts3}
 use Rattle.majority.specs.declared.Record.{Record}
 
 -- the inputs and gates before record i are translated: their operands, after that of node 0, and the table so far

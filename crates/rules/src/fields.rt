@@ -1,7 +1,7 @@
 // The fields that a step's rule allows.
 use majority::Counts;
 ghost use mathlib.Core.Path.{_≡_};
-ghost use Rattle.majority.specs.Step.{badRule, isGate, gateFits, aFits, fieldsFit, inserted as insertedBy};
+ghost use Rattle.rules.specs.Step.{badRule, isGate, gateFits, aFits, fieldsFit, inserted as insertedBy};
 
 // The rules.
 pub const EXCHANGE: u16 = 1;

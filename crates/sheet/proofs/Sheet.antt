@@ -8,10 +8,10 @@ use Rattle.majority.specs.Seek.{firstFrom}
 use Rattle.majority.specs.Check.{kindBefore, badKindAt, count, faultOf, faultyAt, checkFields, checkKinds, checkRecords}
 use Rattle.majority.specs.Edge.{flip, raise, redirect}
 use Rattle.majority.specs.Edit.{redirectAll, insert, become}
-use Rattle.majority.specs.Rules.{majorityForm, majorityRule, associativityForm, associativity, outwardForm, outward}
-use Rattle.majority.specs.Sweep.{member, stays, renumber, closeUp, sweep}
-use Rattle.majority.specs.Translate.{classOf, middle, place, gate3, parts3, translation, operations}
-use Rattle.majority.specs.Step.{fieldsFit, hasForm, rewritten, step}
+use Rattle.rules.specs.Rules.{majorityForm, majorityRule, associativityForm, associativity, outwardForm, outward}
+use Rattle.rules.specs.Sweep.{member, stays, renumber, closeUp, sweep}
+use Rattle.translation.specs.Translate.{classOf, middle, place, gate3, parts3, translation, operations}
+use Rattle.rules.specs.Step.{fieldsFit, hasForm, rewritten, step}
 use Rattle.tables.specs.Field.{fieldAt}
 use Rattle.tables.specs.Bytes.{decode, encode}
 use Rattle.tables.specs.Calls.{checkOf}

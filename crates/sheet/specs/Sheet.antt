@@ -4,7 +4,7 @@ use mathlib.Core.List.{List, [], _∷_, _++_, map}
 use lib.ListN.{length, replicate}
 use Rattle.majority.specs.Table.{input, gate, output}
 use Rattle.majority.specs.Check.{Reply, accepted, refused}
-use Rattle.majority.specs.Rm3.{operation}
+use Rattle.translation.specs.Rm3.{operation}
 use Rattle.majority.specs.declared.Record.{Record}
 use Rattle.majority.specs.declared.Counts.{Counts}
 use Rattle.tables.specs.Bytes.{encode, tableOf}

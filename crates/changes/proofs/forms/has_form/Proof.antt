@@ -2,7 +2,7 @@
 use borrow.Author.Needs.{needs}
 use mathlib.Core.Path.{_∙_}
 use borrow.Author.Tests.{eq-eqb, ne-eqb}
-use Rattle.majority.specs.Step.{hasForm}
+use Rattle.rules.specs.Step.{hasForm}
 use Rattle.changes.proofs.forms.has_form.Statement.{statement}
 use Rattle.changes.proofs.forms.has_form.Tie as tie
 

@@ -4,7 +4,7 @@ use mathlib.Core.Path.{sym, _∙_}
 use native.Mathlib.Omega.{arith}
 use Prim.Native.Nat.{_+_, _≤_}
 use borrow.Author.Tests.{not-true, not-false}
-use Rattle.majority.specs.Step.{inserted}
+use Rattle.rules.specs.Step.{inserted}
 use Rattle.tables.specs.declared.Refusal.the-variants.{Rule, Field, Form, Gates, Room}
 use Rattle.tables.proofs.Decoded.{length-table}
 use Rattle.tables.proofs.Sound.{sound-accepted}

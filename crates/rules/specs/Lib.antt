@@ -1,0 +1,4 @@
+pub mod Sweep
+pub mod Rules
+pub mod Step
+pub mod Kept
