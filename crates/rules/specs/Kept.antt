@@ -64,7 +64,7 @@ pub record NodesKept (δ n m m′ o : ℕ) (moves : Moves) (rs rs′ : List Reco
   -- nodes stay before the outputs, and these stay uninverted in their order
   pub nodes : (k : ℕ) → k ≤ n + m → moves .place k ≤ n + m′
   pub outputs : (j : ℕ) → j < o → (moves .stays (suc (n + m + j)) ≡ true) × (moves .place (suc (n + m + j)) ≡ suc (n + m′ + j)) × (moves .inverted (suc (n + m + j)) ≡ false)
-  -- no gate, an old or a new one, stands more than δ above every gate of rs
+  -- each gate, an old or a new one, stands at most δ above some gate of rs
   pub gates : (k : ℕ) → n < k → k ≤ n + m′ → Near δ n m rs (level rs′ k)
 
 -- from the table rs of m gates to rs′ of m′ gates: rs′ is well formed, each output keeps its value under each assignment, and depth rises by at most δ
