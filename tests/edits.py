@@ -14,8 +14,8 @@ import concurrent.futures, os, pathlib, re, shutil, subprocess, sys, tempfile, t
 ROOT = pathlib.Path(__file__).resolve().parent.parent
 CRATES, RLIBS, LOGS = ROOT / "crates", ROOT / "target" / "rlib", ROOT / "target" / "quick"
 PARTS = ("src", "specs", "proofs")
-# what the prover says where a proof names a part of the function that the edited code has not
-SHAPE = re.compile(r"that can be named from here|has no field|expected type `tie\.Need-")
+# what the prover says where a proof or an edit names something that is not there
+SHAPE = re.compile(r"that can be named from here|is not in scope|has no field|expected type `tie\.Need-")
 
 
 class BadEdit(Exception):

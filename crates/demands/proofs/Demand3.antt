@@ -3,7 +3,8 @@ use Prim.Native.Nat.{ℕ, suc, _-_, _/_}
 use mathlib.Core.Path.{_≡_}
 use mathlib.Core.List.{List, [], _∷_}
 use native.Mathlib.Omega.{arith}
-use Rattle.majority.specs.Check.{counts, accepted}
+use Rattle.refusals.specs.Reply.{accepted}
+use Rattle.majority.specs.Check.{counts}
 use Rattle.tables.specs.Bytes.{tableOf}
 use Rattle.tables.specs.Calls.{checkOf}
 use Rattle.rewriting.specs.Script.{scriptRun}

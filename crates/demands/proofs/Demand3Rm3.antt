@@ -2,12 +2,13 @@
 use Prim.Native.Nat.{ℕ}
 use mathlib.Core.Path.{_≡_, _∙_}
 use mathlib.Core.List.{List}
-use Rattle.majority.specs.Check.{accepted, counts}
-use Rattle.majority.specs.Translate.{translation, operations}
+use Rattle.refusals.specs.Reply.{accepted}
+use Rattle.majority.specs.Check.{counts}
+use Rattle.translation.specs.Translate.{translation, operations}
 use Rattle.majority.specs.declared.Record.{Record}
-use Rattle.majority.proofs.Rm3Formed.{translated-formed}
-use Rattle.majority.proofs.Rm3Laws.{translated-outputs, translated-depth}
-use Rattle.majority.proofs.Rm3Size.{translated-size}
+use Rattle.translation.proofs.Rm3Formed.{translated-formed}
+use Rattle.translation.proofs.Rm3Laws.{translated-outputs, translated-depth}
+use Rattle.translation.proofs.Rm3Size.{translated-size}
 use Rattle.rm3.proofs.Replies.{reply-table}
 use Rattle.demands.specs.Demand3.{After, tableAfter, Keeps, replyAfter, rm3After, KeepsRm3, Demand3, Demand3Rm3}
 use Rattle.demands.proofs.Demand3.{demand-3}

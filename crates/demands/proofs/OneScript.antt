@@ -6,12 +6,15 @@ use mathlib.Core.List.{List, [], _∷_}
 use native.Mathlib.Omega.{arith}
 use lib.Dec.{eqb}
 use lib.ListN.{length, take}
+use Rattle.refusals.specs.Why.{why}
 use Rattle.majority.specs.If.{if_then_else_}
-use Rattle.majority.specs.Check.{counts, Reply, accepted, refused}
-use Rattle.majority.specs.declared.Record.{Record}
-use Rattle.majority.proofs.Kept.{kept-then}
+use Rattle.refusals.specs.Reply.{Reply, accepted, refused}
+use Rattle.majority.specs.Check.{counts}
+use Rattle.rules.specs.declared.Step.{Step}
+use Rattle.rules.proofs.Kept.{kept-then}
 use Rattle.tables.specs.Calls.{checkOf}
-use Rattle.rewriting.specs.Script.{Run, stopped, stepsOf, replyTo, bytesAfter, byReply, runFrom, untaken, scriptRun}
+use Rattle.rewriting.specs.Calls.{stepOf, stepBytes}
+use Rattle.rewriting.specs.Script.{Run, stopped, stepsOf, byReply, runFrom, untaken, scriptRun}
 use Rattle.demands.specs.Demand3.{deepening, deepeningTaken}
 use Rattle.demands.proofs.OneStep.{Between, between-same, between-step}
 
@@ -20,30 +23,30 @@ pub between-then : {δ ε n m o : ℕ} {xs ys zs : List ℕ} {a b c : ℕ} (p : 
 between-then p q = record { gates = q .gates; holds = q .holds; kept = kept-then (p .kept) (q .kept) }
 
 -- the run took the first `more` of the steps, where `taken` were taken before
-record Ran (taken n m o : ℕ) (xs : List ℕ) (used : ℕ) (steps : List Record) (run : Run) : Type 0 where
+record Ran (taken n m o : ℕ) (xs : List ℕ) (used : ℕ) (steps : List Step) (run : Run) : Type 0 where
   more : ℕ
   adds : run .taken ≡ taken + more
   between : Between (deepening (take more steps)) n m o xs used (run .bytes) (run .used)
 
 -- no step is taken
-ran-none : (taken n m o : ℕ) (xs : List ℕ) (used : ℕ) (steps : List Record) (run : Run) → checkOf xs used ≡ accepted (counts n m o)
+ran-none : (taken n m o : ℕ) (xs : List ℕ) (used : ℕ) (steps : List Step) (run : Run) → checkOf xs used ≡ accepted (counts n m o)
     → run .taken ≡ taken → run .bytes ≡ xs → run .used ≡ used → Ran taken n m o xs used steps run
 unfolding deepening
 ran-none taken n m o xs used steps run is t b u = record { more = 0; adds = omega arith; between = rw (b, u) (between-same xs used n m o is) }
 
-ran : (steps : List Record) (taken n m o : ℕ) (xs : List ℕ) (used : ℕ) → checkOf xs used ≡ accepted (counts n m o) → Ran taken n m o xs used steps (runFrom taken xs used steps)
+ran : (steps : List Step) (taken n m o : ℕ) (xs : List ℕ) (used : ℕ) → checkOf xs used ≡ accepted (counts n m o) → Ran taken n m o xs used steps (runFrom taken xs used steps)
 unfolding runFrom deepening
 ran [] taken n m o xs used is = ran-none taken n m o xs used [] _ is refl refl refl
-ran (r ∷ steps) taken n m o xs used is = go (replyTo xs used r) refl (λ m′ ys next is′. ran steps (taken + 1) n m′ o ys next is′)
+ran (s ∷ steps) taken n m o xs used is = go (stepOf xs used s) refl (λ m′ ys next is′. ran steps (taken + 1) n m′ o ys next is′)
   where
-    go : (reply : Reply ℕ) → replyTo xs used r ≡ reply
+    go : (reply : Reply ℕ) → stepOf xs used s ≡ reply
         → ((m′ : ℕ) (ys : List ℕ) (next : ℕ) → checkOf ys next ≡ accepted (counts n m′ o) → Ran (taken + 1) n m′ o ys next steps (runFrom (taken + 1) ys next steps))
-        → Ran taken n m o xs used (r ∷ steps) (byReply reply (λ next. runFrom (taken + 1) (bytesAfter xs used r) next steps) (λ k i. record { taken = taken; end = stopped k i; used = used; bytes = xs }))
+        → Ran taken n m o xs used (s ∷ steps) (byReply reply (λ next. runFrom (taken + 1) (stepBytes xs used s) next steps) (λ w. record { taken = taken; end = stopped w; used = used; bytes = xs }))
     go (accepted next) e rest =
-        let p = between-step xs used n m o is r next e in
-        let q = rest (p .gates) (bytesAfter xs used r) next (p .holds) in
+        let p = between-step xs used n m o is s next e in
+        let q = rest (p .gates) (stepBytes xs used s) next (p .holds) in
         record { more = suc (q .more); adds = omega (arith, q .adds); between = between-then p (q .between) }
-    go (refused k i) e rest = ran-none taken n m o xs used (r ∷ steps) _ is refl refl refl
+    go (refused w) e rest = ran-none taken n m o xs used (s ∷ steps) _ is refl refl refl
 
 -- a script, whatever it is
 module _ (xs : List ℕ) (used n m o : ℕ) (is : checkOf xs used ≡ accepted (counts n m o)) (script : List ℕ) where
@@ -51,7 +54,7 @@ module _ (xs : List ℕ) (used n m o : ℕ) (is : checkOf xs used ≡ accepted (
   unfolding scriptRun
   whole = rw is (go (not (eqb (length script % 8) 0)))
     where
-      go : (odd : Bool) → Ran 0 n m o xs used (stepsOf script) (if odd then untaken 12 0 xs used else runFrom 0 xs used (stepsOf script))
+      go : (odd : Bool) → Ran 0 n m o xs used (stepsOf script) (if odd then untaken (why 12) xs used else runFrom 0 xs used (stepsOf script))
       go true = ran-none 0 n m o xs used (stepsOf script) _ is refl refl refl
       go false = ran (stepsOf script) 0 n m o xs used is
 

@@ -6,10 +6,12 @@ use lib.ListN.{length, take}
 use Rattle.majority.specs.Table.{Below, WellFormed}
 use Rattle.majority.specs.Value.{outputValue}
 use Rattle.majority.specs.Level.{depth}
-use Rattle.majority.specs.Check.{Reply, accepted, counts}
+use Rattle.refusals.specs.Reply.{Reply, accepted}
+use Rattle.majority.specs.Check.{counts}
 use Rattle.majority.specs.Edit.{nodeRecord}
-use Rattle.majority.specs.Step.{deepens}
-use Rattle.majority.specs.Rm3.{WellFormed3, outputValue3, depth3}
+use Rattle.rules.specs.Step.{deepensBy}
+use Rattle.rules.specs.declared.Step.{Step}
+use Rattle.translation.specs.Rm3.{WellFormed3, outputValue3, depth3}
 use Rattle.majority.specs.declared.Record.{Record}
 use Rattle.tables.specs.Bytes.{tableOf}
 use Rattle.tables.specs.Calls.{checkOf}
@@ -17,9 +19,9 @@ use Rattle.rewriting.specs.Script.{Run, stepsOf, scriptRun}
 use Rattle.rm3.specs.Calls.{translateOf, translateBytes}
 
 -- how many of these steps are of associativity or distributivity, rules 3, 4 and 5
-unfoldable pub deepening : List Record → ℕ
+unfoldable pub deepening : List Step → ℕ
 deepening [] = 0
-deepening (r ∷ rs) = deepens (r .kind) + deepening rs
+deepening (s ∷ steps) = deepensBy s + deepening steps
 
 -- how many of them a script took: it took the first `taken` of its steps
 abbrev pub deepeningTaken : List ℕ → Run → ℕ

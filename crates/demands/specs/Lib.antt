@@ -1,1 +1,1 @@
-pub mod Demand3
+pub mod Demand3  -- what rewriting keeps (SPEC 5.6), and what the RM3 table keeps (SPEC 6.3)

@@ -1,5 +1,5 @@
 -- What edits of records leave in a buffer (SPEC 5.2).
-use Prim.Native.Nat.{ℕ, _-_, _*_, _/_, _%_}
+use Prim.Native.Nat.{ℕ, _-_, _/_, _%_}
 use mathlib.Core.Bool.{Bool, _||_}
 use mathlib.Core.List.{List, _∷_, _++_, map}
 use lib.Dec.{eqb, ltb, leb}
@@ -9,11 +9,7 @@ use Rattle.majority.specs.Edge.{nodeOf, redirect, raise}
 use Rattle.majority.specs.Table.{blank}
 use Rattle.majority.specs.Edit.{edges}
 use Rattle.majority.specs.declared.Record.{Record}
-use Rattle.tables.specs.Bytes.{tableOf, encode}
-
--- the buffer xs with the table t at its front
-unfoldable pub holding : List Record → List ℕ → List ℕ
-holding t xs = encode t ++ drop (8 * length t) xs
+use Rattle.tables.specs.Bytes.{tableOf, holding}
 
 -- the table t with f of each record from record i on
 unfoldable pub changedFrom : (Record → Record) → ℕ → List Record → List Record

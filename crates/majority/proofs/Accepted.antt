@@ -9,11 +9,13 @@ use native.Mathlib.Decide.{decLt}
 use borrow.Author.Tests.{ltb-false, le-ltb, eq-eqb, ne-eqb, eqb-true, not-false}
 use lib.Dec.{ltb, eqb}
 use lib.ListN.{length}
+use Rattle.refusals.specs.Why.{why, whyAt}
 use Rattle.majority.specs.If.{if_then_else_}
 use Rattle.majority.specs.Edge.{nodeOf}
 use Rattle.majority.specs.Seek.{first}
 use Rattle.majority.specs.Table.{input, output, recordAt, Below, WellFormed, WithinLimits}
-use Rattle.majority.specs.Check.{counts, accepted, badKindAt, count, countsOf, badCounts, past, faultOf, faultyAt, checkFields, checkKinds, checkRecords}
+use Rattle.refusals.specs.Reply.{accepted}
+use Rattle.majority.specs.Check.{counts, badKindAt, count, countsOf, badCounts, past, faultOf, faultyAt, checkFields, checkKinds, checkRecords}
 use Rattle.majority.specs.declared.Record.{Record}
 use Rattle.majority.specs.declared.Counts.{Counts}
 use Rattle.majority.proofs.Logic.{neither, passed, passed-on}
@@ -116,11 +118,11 @@ formed-of n m o rs all s fine = record {
 pub acceptance : (n m o : ℕ) (rs : List Record) → checkRecords rs ≡ accepted (counts n m o) → Accepted n m o rs
 unfolding checkRecords checkKinds checkFields faultyAt
 acceptance n m o rs e =
-    let s1 = passed-on _ 2 _ (countsOf rs) _ _ e in
-    let s2 = passed (badCounts (countsOf rs)) 3 0 (checkFields (countsOf rs) rs) _ (s1 .1) in
+    let s1 = passed-on _ (whyAt 2 _) (countsOf rs) _ _ e in
+    let s2 = passed (badCounts (countsOf rs)) (why 3) (checkFields (countsOf rs) rs) _ (s1 .1) in
     let last = count 1 rs + count 2 rs in
     let bad = first (faultyAt last rs) (length rs) in
-    let s3 = passed (ltb bad (length rs)) (faultOf last bad (recordAt rs bad)) bad (accepted (countsOf rs)) _ (s2 .1) in
+    let s3 = passed (ltb bad (length rs)) (whyAt (faultOf last bad (recordAt rs bad)) bad) (accepted (countsOf rs)) _ (s2 .1) in
     let same : countsOf rs ≡ counts n m o = accepted-once _ _ (s3 .1) in
     let en : count 1 rs ≡ n = ap (λ (c : Counts). c .inputs) same in
     let em : count 2 rs ≡ m = ap (λ (c : Counts). c .gates) same in

@@ -10,7 +10,7 @@ use Rattle.majority.specs.If.{if_then_else_}
 use Rattle.majority.specs.Edge.{nodeOf, isInverted}
 use Rattle.majority.specs.Table.{Below, WellFormed}
 use Rattle.majority.specs.Node.{byKind, edgeWorth, recordWorth}
-use Rattle.majority.specs.Level.{above, levels, level, highest}
+use Rattle.majority.specs.Level.{above, levels, level, highest, depth}
 use Rattle.majority.specs.declared.Record.{Record}
 use Rattle.majority.proofs.Nodes.{node-induction, node-zero}
 use Rattle.majority.proofs.Formed.{formed-eq, reads-lower}
@@ -51,6 +51,11 @@ pub highest-at-most : (f : ℕ → ℕ) (k i l : ℕ) → ((j : ℕ) → i ≤ j
 unfolding highest
 highest-at-most f zero i l h = omega arith
 highest-at-most f (suc k) i l h = omega (arith, h i (omega arith) (omega arith), highest-at-most f k (suc i) l (λ j a b. h j (omega arith) (omega arith)))
+
+-- no gate stands above the depth
+pub within-depth : (n m : ℕ) (rs : List Record) (k : ℕ) → n < k → k ≤ n + m → level rs k ≤ depth n m rs
+unfolding depth
+within-depth n m rs k p q = at-most-highest (level rs) m (n + 1) k (omega arith) (omega arith)
 
 -- one more number at the end
 pub highest-more : (f : ℕ → ℕ) (k i : ℕ) → highest f i (suc k) ≡ max (highest f i k) (f (i + k))

@@ -1,50 +1,11 @@
-pub mod Logic
-pub mod Seek
-pub mod Pass
-pub mod Nodes
-pub mod Formed
-pub mod Levels
-pub mod Numbers
-pub mod Order
-pub mod Accepted
-pub mod Kept
-pub mod Placed
-pub mod Keeping
-pub mod MajorityLaws
-pub mod Meanings
-pub mod Edges
-pub mod Redirect
-pub mod Gates
-pub mod Become
-pub mod Raise
-pub mod Insert
-pub mod Inserted
-pub mod Exchange
-pub mod MajorityShare
-pub mod Growth
-pub mod Associativity
-pub mod Outward
-pub mod Inward
-pub mod Inversion
-pub mod KeptNodes
-pub mod CloseUp
-pub mod Reached
-pub mod Sweep
-pub mod Taken
-pub mod Steps
-pub mod Begins
-pub mod Rm3Worth
-pub mod Rm3Place
-pub mod Rm3Gate
-pub mod Rm3Nodes
-pub mod Rm3Stands
-pub mod Rm3Outputs
-pub mod Rm3Formed
-pub mod Rm3Simulation
-pub mod Rm3Laws
-pub mod Totals
-pub mod Rm3Count
-pub mod Rm3Size
-pub mod Rm3Operands
-pub mod Rm3Turns
-pub mod Rm3Levels
+pub mod Logic  -- the parts of a test that failed, or held
+pub mod Seek  -- a search, one turn at a time, and what it finds
+pub mod Pass  -- a pass over records: the equation that each worth meets
+pub mod Nodes  -- the equation of each node, induction over nodes, congruence
+pub mod Formed  -- what a well-formed table gives
+pub mod Levels  -- bounds on levels, in place of `max`
+pub mod Numbers  -- the bits of the outputs' number
+pub mod Order  -- no bad kind: inputs, then gates, then outputs
+pub mod Accepted  -- a table is accepted where it is well formed and within its limits, and only there
+pub mod MajorityLaws  -- the laws of the majority of three Booleans
+pub mod Meanings  -- what the rules ask of a meaning, for values and for levels

@@ -4,7 +4,8 @@ use mathlib.Core.Path.{_≡_, refl, sym}
 use mathlib.Core.Bool.{Bool, true, false, true≢false, _||_, _&&_}
 use native.Mathlib.Omega.{arith}
 use Rattle.majority.specs.If.{if_then_else_}
-use Rattle.majority.specs.Check.{Reply, accepted, refused, andThen}
+use Rattle.refusals.specs.Why.{Why}
+use Rattle.refusals.specs.Reply.{Reply, accepted, refused, andThen}
 
 pub neither : (a b : Bool) → (a || b) ≡ false → (a ≡ false) × (b ≡ false)
 neither true b e = absurd (true≢false e)
@@ -15,11 +16,11 @@ both true b e = (refl, e)
 both false b e = absurd (true≢false (sym e))
 
 -- a test that would refuse did not
-pub passed : {A : Type 0} (t : Bool) (k i : ℕ) (x : Reply A) (a : A) → (if t then refused k i else x) ≡ accepted a → (t ≡ false) × (x ≡ accepted a)
-passed true k i x a e = let z : _≡_ {A = ℕ} 0 1 = cc in absurd (omega arith)
-passed false k i x a e = (refl, e)
+pub passed : {A : Type 0} (t : Bool) (w : Why) (x : Reply A) (a : A) → (if t then refused w else x) ≡ accepted a → (t ≡ false) × (x ≡ accepted a)
+passed true w x a e = let z : _≡_ {A = ℕ} 0 1 = cc in absurd (omega arith)
+passed false w x a e = (refl, e)
 
 -- a test that would refuse did not, nor did what followed it
-pub passed-on : {A B : Type 0} (t : Bool) (k i : ℕ) (x : A) (f : A → Reply B) (b : B) → andThen (if t then refused k i else accepted x) f ≡ accepted b → (t ≡ false) × (f x ≡ accepted b)
-passed-on true k i x f b e = let z : _≡_ {A = ℕ} 0 1 = cc in absurd (omega arith)
-passed-on false k i x f b e = (refl, e)
+pub passed-on : {A B : Type 0} (t : Bool) (w : Why) (x : A) (f : A → Reply B) (b : B) → andThen (if t then refused w else accepted x) f ≡ accepted b → (t ≡ false) × (f x ≡ accepted b)
+passed-on true w x f b e = let z : _≡_ {A = ℕ} 0 1 = cc in absurd (omega arith)
+passed-on false w x f b e = (refl, e)

@@ -15,7 +15,7 @@ pub record SelfDual {A : Type 0} (𝓜 : Meaning A) : Type 0 where
   pub twice : (a : A) → 𝓜 .inverse (𝓜 .inverse a) ≡ a
   pub inverses : (a b c : A) → 𝓜 .gate (𝓜 .inverse a) (𝓜 .inverse b) (𝓜 .inverse c) ≡ 𝓜 .inverse (𝓜 .gate a b c)
 
-not-twice : (b : Bool) → not (not b) ≡ b
+pub not-twice : (b : Bool) → not (not b) ≡ b
 not-twice true = refl
 not-twice false = refl
 

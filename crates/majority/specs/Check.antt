@@ -4,22 +4,14 @@ use mathlib.Core.Bool.{Bool, false, not, _||_}
 use mathlib.Core.List.{List, [], _∷_}
 use lib.ListN.{length}
 use lib.Dec.{ltb, eqb}
+use Rattle.refusals.specs.Why.{why, whyAt}
+use Rattle.refusals.specs.Reply.{Reply, accepted, refused, andThen}
 use Rattle.majority.specs.If.{if_then_else_}
 use Rattle.majority.specs.Edge.{nodeOf}
 use Rattle.majority.specs.Seek.{first}
 use Rattle.majority.specs.Table.{recordAt}
 use Rattle.majority.specs.declared.Record.{Record}
 use Rattle.majority.specs.declared.Counts.{Counts}
-
--- a reply: what was asked for, or a refusal's number and the record that it carries
-pub data Reply (A : Type 0) : Type 0 where
-  accepted : A → Reply A
-  refused : ℕ → ℕ → Reply A
-
--- what f replies to what was accepted; a refusal stands
-abbrev pub andThen : {A B : Type 0} → Reply A → (A → Reply B) → Reply B
-andThen (accepted x) f = f x
-andThen (refused k i) f = refused k i
 
 -- 2: a kind is not 1 to 3, or is lower than the kind before it
 abbrev pub badKind : ℕ → ℕ → Bool
@@ -79,14 +71,14 @@ unfoldable pub checkFields : Counts → List Record → Reply Counts
 checkFields c rs =
     let last = c .inputs + c .gates in
     let bad = first (faultyAt last rs) (length rs) in
-    if ltb bad (length rs) then refused (faultOf last bad (recordAt rs bad)) bad else accepted c
+    if ltb bad (length rs) then refused (whyAt (faultOf last bad (recordAt rs bad)) bad) else accepted c
 
 -- 2 over all records, for the first bad one, or the counts found
 unfoldable pub checkKinds : List Record → Reply Counts
 checkKinds rs =
     let bad = first (badKindAt rs) (length rs) in
-    if ltb bad (length rs) then refused 2 bad else accepted (countsOf rs)
+    if ltb bad (length rs) then refused (whyAt 2 bad) else accepted (countsOf rs)
 
 -- 2, then 3, then 4 and 5
 unfoldable pub checkRecords : List Record → Reply Counts
-checkRecords rs = andThen (checkKinds rs) (λ c. if badCounts c then refused 3 0 else checkFields c rs)
+checkRecords rs = andThen (checkKinds rs) (λ c. if badCounts c then refused (why 3) else checkFields c rs)

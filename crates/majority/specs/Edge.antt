@@ -19,6 +19,10 @@ flip e = 2 * (e / 2) + (1 - e % 2)
 unfoldable pub redirect : ℕ → ℕ → ℕ → ℕ
 redirect g e x = if eqb (nodeOf x) g then (if isInverted x then flip e else e) else x
 
--- node numbers from g upward rise by c: so does an edge x that names one of them
+-- node numbers from g upward rise by c: the number that node k gets
+unfoldable pub raised : ℕ → ℕ → ℕ → ℕ
+raised g c k = if ltb k g then k else k + c
+
+-- and so the edge that an edge x becomes
 unfoldable pub raise : ℕ → ℕ → ℕ → ℕ
 raise g c x = if ltb (nodeOf x) g then x else x + 2 * c

@@ -1,5 +1,5 @@
 // What a request is read by. Nothing here reads a byte past the one that is asked for.
-ghost use Rattle.majpipe.specs.Part.{Within};
+ghost use Rattle.majpipe.specs.inner.Part.{Within};
 use libc::STDIN_FILENO;
 use majority::Counts;
 use program::Got;

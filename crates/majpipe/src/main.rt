@@ -18,6 +18,7 @@ use reply::Reply;
 use rewriting::Ending;
 use rewriting::Stepped;
 use rm3::Translated;
+use rules::Step;
 use tables::Checked;
 use text::Line;
 
@@ -102,15 +103,13 @@ fn high_half(n: u32) -> u16 {
 
 // One step of these numbers, the low half of each 32 bits first; then the table as the step left it.
 fn stepped(table: &mut [u8], used: usize, rule_gate: u32, a_b: u32) -> Outcome {
-    let answer = rewriting::step(
-        table,
-        used,
-        low_half(rule_gate),
-        high_half(rule_gate),
-        low_half(a_b),
-        high_half(a_b),
-    );
-    match answer {
+    let step = Step {
+        rule: low_half(rule_gate),
+        gate: high_half(rule_gate),
+        a: low_half(a_b),
+        b: high_half(a_b),
+    };
+    match rewriting::step(table, used, step) {
         Stepped::Used(n) => sent_with(Reply::accepted().number(n), table),
         Stepped::Refused(r) => sent_with(Reply::refused(r).number(0), table),
     }

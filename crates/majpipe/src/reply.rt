@@ -2,7 +2,7 @@
 ghost use mathlib.Core.Path.{_≡_};
 ghost use Rattle.text.specs.Shown.{withWord, fourBytes};
 use libc::STDOUT_FILENO;
-use tables::Refusal;
+use refusals::Refusal;
 use text::Line;
 
 // The bytes so far, which a line holds as it would a text.
@@ -27,8 +27,8 @@ impl Reply {
     // The beginning of a reply with a refusal.
     pub fn refused(r: Refusal) -> Reply {
         Reply::begun(
-            tables::refusal_number(r) as usize,
-            tables::refusal_record(r),
+            refusals::refusal_number(r) as usize,
+            refusals::refusal_record(r),
         )
     }
 

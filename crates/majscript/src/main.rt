@@ -9,8 +9,6 @@ use program::Input;
 use program::Program;
 use rewriting::Ending;
 use rewriting::Progress;
-use tables::refusal_number;
-use tables::refusal_record;
 use text::Line;
 
 // The most bytes that a script file may have, and room for one more, to see that it is longer.
@@ -22,8 +20,7 @@ const ROOM: usize = MOST_BYTES + 1;
 fn ended(line: Line, ending: Ending) -> Line {
     match ending {
         Ending::Finished => line,
-        Ending::Stopped(r) => line.word(b" ")
-            .refused(refusal_number(r), refusal_record(r)),
+        Ending::Stopped(r) => line.word(b" ").refused(r),
     }
 }
 

@@ -9,7 +9,7 @@ use libc::STDOUT_FILENO;
 pub use reads::Got;
 pub use reads::read_whole;
 use reasons::reason;
-use tables::Refusal;
+use refusals::Refusal;
 pub use writes::write_whole;
 ghost use Rattle.io.specs.Counts.{Counts};
 use text::Decimal;
@@ -149,11 +149,7 @@ impl Program {
 
     // Says which refusal was met.
     pub fn refused(self, file: i32, r: Refusal) -> End {
-        self.put(
-            file,
-            Line::empty().refused(tables::refusal_number(r), tables::refusal_record(r)),
-            End::Refused,
-        )
+        self.put(file, Line::empty().refused(r), End::Refused)
     }
 
     // Says why standard input could not be read.

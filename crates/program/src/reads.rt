@@ -1,5 +1,5 @@
 // Reading a file to its end. The end of the input is told from a read that failed.
-ghost use Rattle.program.specs.Moved.{MovedWithin, GotWithin};
+ghost use Rattle.program.specs.inner.Moved.{MovedWithin, GotWithin};
 ghost use lib.ListN.{length};
 use crate::writes::Moved;
 use crate::writes::outcome;

@@ -1,5 +1,5 @@
 // Writing all of some bytes.
-ghost use Rattle.program.specs.Moved.{MovedWithin};
+ghost use Rattle.program.specs.inner.Moved.{MovedWithin};
 ghost use lib.ListN.{length};
 
 // What one call of read or write did: it moved so many bytes, or none; it is to be made again, since a signal came between; or it failed.

@@ -1,2 +1,1 @@
--- What the proofs of several functions use.
-mod Told
+mod Told  -- what is said of a case of an answer is said of the answer

@@ -1,1 +1,1 @@
-pub mod Replies
+pub mod Replies  -- the numbers of each reply (SPEC 10)

@@ -1,6 +1,6 @@
 -- The numbers of each reply (SPEC 10): the refusal and its record, 0 and 0 for none, and then the call's own, all 0 where it is refused.
 use Prim.Native.Nat.{ℕ}
-use Rattle.majority.specs.Check.{Reply, accepted, refused}
+use Rattle.refusals.specs.Reply.{Reply, accepted, refused}
 use Rattle.majority.specs.declared.Counts.{Counts}
 use Rattle.questions.specs.declared.Size.{Size}
 use Rattle.rewriting.specs.Script.{End, finished, stopped, Run}
@@ -15,22 +15,22 @@ use Rattle.pulpgarnet.specs.declared.Deep.{Deep}
 -- a refusal's number, and 0 for none
 abbrev pub number : End → ℕ
 number finished = 0
-number (stopped k i) = k
+number (stopped w) = w .number
 
 -- the record that it carries, and 0 for none
 abbrev pub place : End → ℕ
 place finished = 0
-place (stopped k i) = i
+place (stopped w) = w .place
 
 -- how a call ended
 abbrev pub endOf : {A : Type 0} → Reply A → End
 endOf (accepted x) = finished
-endOf (refused k i) = stopped k i
+endOf (refused w) = stopped w
 
 -- a number of what was accepted, and 0 where the call was refused
 abbrev pub orZero : {A : Type 0} → Reply A → (A → ℕ) → ℕ
 orZero (accepted x) f = f x
-orZero (refused k i) f = 0
+orZero (refused w) f = 0
 
 abbrev pub checkedReply : Reply Counts → Checked
 checkedReply r =

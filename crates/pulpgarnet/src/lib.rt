@@ -1,7 +1,8 @@
 // The static library: every call for C, on pointers with lengths (include/pulpgarnet.h). Each reply is a struct of numbers.
+use refusals::refusal_number;
+use refusals::refusal_record;
 use rewriting::Ending;
-use tables::refusal_number;
-use tables::refusal_record;
+use rules::Step;
 ghost use mathlib.Core.Path.{_≡_};
 ghost use lib.ListN.{length};
 ghost use Rattle.tables.specs.Calls.{checkOf};
@@ -9,6 +10,7 @@ ghost use Rattle.questions.specs.Said.{saidValue, saidReport};
 ghost use Rattle.questions.specs.Calls.{evaluateOf, reportOf};
 ghost use Rattle.questions.specs.Claimed.{claimedEvaluate, claimedReport};
 ghost use Rattle.reading.specs.Held.{claim};
+ghost use Rattle.rules.specs.Step.{stepWith};
 ghost use Rattle.rewriting.specs.Calls.{stepOf, stepBytes};
 ghost use Rattle.rewriting.specs.Script.{scriptRun};
 ghost use Rattle.rm3.specs.Calls.{translateOf, translateBytes, depthOf};
@@ -153,10 +155,10 @@ pub extern "C" fn pulpgarnet_step(
     a: u16,
     b: u16,
 ) -> Stepped
-    ensures reply { λ r. ⌜ r ≡ steppedReply (stepOf (now (table .entry)) used rule gate a b) ⌝ }
-    ensures bytes { λ _. ⌜ now (table .exit) ≡ stepBytes (now (table .entry)) used rule gate a b ⌝ }
+    ensures reply { λ r. ⌜ r ≡ steppedReply (stepOf (now (table .entry)) used (stepWith rule gate a b)) ⌝ }
+    ensures bytes { λ _. ⌜ now (table .exit) ≡ stepBytes (now (table .entry)) used (stepWith rule gate a b) ⌝ }
 {
-    match rewriting::step(table, used, rule, gate, a, b) {
+    match rewriting::step(table, used, Step { rule, gate, a, b }) {
         rewriting::Stepped::Used(used) => Stepped {
             refusal: 0,
             at: 0,

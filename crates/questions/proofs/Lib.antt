@@ -1,3 +1,3 @@
-mod Worths
-pub mod Said
-pub mod Claims
+mod Worths  -- the list holds what the nodes so far are worth
+pub mod SaidOnce  -- the questions' replies are one-to-one
+pub mod Claims  -- claimed counts that are those found give the plain reply

@@ -20,7 +20,7 @@ use Rattle.majority.proofs.Formed.{input-eq, gate-eq, reads-nodes, below-more}
 use Rattle.majority.proofs.Levels.{edge-level, level-at-most}
 use Rattle.tables.specs.Sound.{Sound, tableIn, Fresh}
 use Rattle.tables.proofs.Sound.{sound-accepted, sound-formed}
-use Rattle.questions.specs.Worths.{Holds, HoldsInputs, edgeValue, gateValue, gateLevel}
+use Rattle.questions.specs.inner.Worths.{Holds, HoldsInputs, edgeValue, gateValue, gateLevel}
 
 -- one more worth
 pub holds-more : {A : Type 0} (𝓜 : Meaning A) {rs : List Record} {k : ℕ} {ws : List A} (x : A) → k < 1056 → x ≡ worth 𝓜 rs (k + 1) → Holds 𝓜 rs k ws → Holds 𝓜 rs (k + 1) (set ws (k + 1) x)

@@ -1,7 +1,7 @@
 -- What the questions reply on records whose counts are claimed (SPEC 7).
 use Prim.Native.Nat.{ℕ}
 use mathlib.Core.List.{List}
-use Rattle.majority.specs.Check.{Reply, accepted, andThen}
+use Rattle.refusals.specs.Reply.{Reply, accepted, andThen}
 use Rattle.majority.specs.declared.Counts.{Counts}
 use Rattle.tables.specs.Bytes.{recordsOf}
 use Rattle.tables.specs.Claimed.{claimedCheck}

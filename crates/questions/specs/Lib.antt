@@ -1,4 +1,4 @@
-pub mod Said
-pub mod Worths
-pub mod Calls
-pub mod Claimed
+pub mod Calls  -- what the questions reply (SPEC 3 and 4)
+pub mod Claimed  -- what they reply where counts are claimed (SPEC 7)
+pub mod Said  -- the reply of each case of the enums
+pub mod inner  -- what private functions keep

@@ -1,7 +1,7 @@
 -- The document's reply for each case of the questions' enums (SPEC 3).
 use Prim.Native.Nat.{ℕ}
-use Rattle.majority.specs.Check.{Reply, accepted, refused}
-use Rattle.tables.specs.Said.{refusalNumber, refusalRecord}
+use Rattle.refusals.specs.Reply.{Reply, accepted, refused}
+use Rattle.refusals.specs.Why.{whyOf}
 use Rattle.questions.specs.declared.Size.{Size}
 use Rattle.questions.specs.declared.Valued.{Valued}
 use Rattle.questions.specs.declared.Valued.the-variants.{Outputs, Refused as ValueRefused}
@@ -10,8 +10,8 @@ use Rattle.questions.specs.declared.Reported.the-variants.{Whole, Refuse
 
 abbrev pub saidValue : Valued → Reply ℕ
 saidValue (Outputs v) = accepted v
-saidValue (ValueRefused r) = refused (refusalNumber r) (refusalRecord r)
+saidValue (ValueRefused r) = refused (whyOf r)
 
 abbrev pub saidReport : Reported → Reply Size
 saidReport (Whole w) = accepted w
-saidReport (ReportRefused r) = refused (refusalNumber r) (refusalRecord r)
+saidReport (ReportRefused r) = refused (whyOf r)

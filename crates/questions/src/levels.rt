@@ -13,12 +13,12 @@ ghost use lib.ListN.{getD};
 ghost use Rattle.majority.specs.Edge.{nodeOf};
 ghost use Rattle.majority.specs.Table.{Below};
 ghost use Rattle.majority.specs.Level.{depth as depthOf};
-ghost use Rattle.majority.specs.Check.{accepted, andThen};
+ghost use Rattle.refusals.specs.Reply.{accepted, andThen};
 ghost use Rattle.tables.specs.Said.{saidCheck};
 ghost use Rattle.tables.specs.Sound.{Sound, SoundAfter, tableIn, Fresh};
 ghost use Rattle.questions.specs.Said.{saidReport};
 ghost use Rattle.questions.specs.Calls.{sizeOf};
-ghost use Rattle.questions.specs.Worths.{gateLevel};
+ghost use Rattle.questions.specs.inner.Worths.{gateLevel};
 
 fn wide(level: u16) -> usize
     ensures { λ r. ⌜ r ≡ level ⌝ }

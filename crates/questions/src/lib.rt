@@ -6,7 +6,7 @@ mod values;
 pub use claimed::evaluate_as;
 pub use claimed::report_as;
 use levels::size_after;
-use tables::Refusal;
+use refusals::Refusal;
 use tables::check;
 use values::value_after;
 ghost use mathlib.Core.Path.{_≡_};

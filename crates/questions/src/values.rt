@@ -5,8 +5,8 @@ use majority::Record;
 use majority::inverted;
 use majority::majority;
 use majority::node;
+use refusals::Refusal;
 use tables::Checked;
-use tables::Refusal;
 use tables::record_at;
 ghost use mathlib.Core.Path.{_≡_};
 ghost use mathlib.Core.Bool.{false};
@@ -14,12 +14,12 @@ ghost use Prim.Native.Nat.{_+_, _≤_, _<_};
 ghost use Rattle.majority.specs.Edge.{nodeOf};
 ghost use Rattle.majority.specs.Table.{Below};
 ghost use Rattle.majority.specs.Value.{bitPast, values as valuesOf, outputNumber};
-ghost use Rattle.majority.specs.Check.{andThen};
+ghost use Rattle.refusals.specs.Reply.{andThen};
 ghost use Rattle.tables.specs.Said.{saidCheck};
 ghost use Rattle.tables.specs.Sound.{Sound, SoundAfter, tableIn, Fresh};
 ghost use Rattle.questions.specs.Said.{saidValue};
 ghost use Rattle.questions.specs.Calls.{valueOf};
-ghost use Rattle.questions.specs.Worths.{Holds, HoldsInputs, edgeValue, gateValue};
+ghost use Rattle.questions.specs.inner.Worths.{Holds, HoldsInputs, edgeValue, gateValue};
 
 // A bit is set at position n or above.
 fn bit_past(assignment: u32, n: usize) -> bool

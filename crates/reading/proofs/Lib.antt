@@ -1,3 +1,3 @@
-pub mod Asks
-pub mod Makes
-pub mod Parts
+pub mod AskedOfReading  -- a reading is taken apart and its parts are asked
+pub mod AskedOfRecords  -- a reading is made of records and counts, and asked
+pub mod Parts  -- a reading of an accepted table answers as the plain calls do

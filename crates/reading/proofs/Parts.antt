@@ -7,8 +7,10 @@ use native.Mathlib.Omega.{arith}
 use borrow.Author.Tests.{eq-eqb, le-ltb}
 use lib.ListN.{length, take}
 use lib.Seq.{length-take-le}
+use Rattle.refusals.specs.Why.{Why, why}
 use Rattle.majority.specs.Seek.{firstFrom}
-use Rattle.majority.specs.Check.{Reply, accepted, refused, andThen, count, checkKinds}
+use Rattle.refusals.specs.Reply.{Reply, accepted, refused, andThen}
+use Rattle.majority.specs.Check.{count, checkKinds}
 use Rattle.majority.specs.declared.Record.{Record}
 use Rattle.majority.specs.declared.Counts.{Counts}
 use Rattle.tables.specs.Bytes.{decode, tableOf, recordsOf}
@@ -61,11 +63,11 @@ module _ (xs : List ℕ) (used : ℕ) where
     read-rm3 room = read-then (rm3In room)
 
   -- no records and no counts: 3
-  none-claimed : claimedCheck [] (claim 0 0 0) ≡ refused 3 0
+  none-claimed : claimedCheck [] (claim 0 0 0) ≡ refused (why 3)
   unfolding claimedCheck checkClaimed checkKinds checkCounted decode count firstFrom
   none-claimed = refl
 
   -- every question of a reading begins with this check
-  pub read-refused : (k i : ℕ) → checkOf xs used ≡ refused k i → claimedCheck (partIn xs used) (countsIn xs used) ≡ refused 3 0
+  pub read-refused : (w : Why) → checkOf xs used ≡ refused w → claimedCheck (partIn xs used) (countsIn xs used) ≡ refused (why 3)
   unfolding foundIn
-  read-refused k i is = rw is none-claimed
+  read-refused w is = rw is none-claimed

@@ -2,7 +2,8 @@
 use Prim.Native.Nat.{ℕ}
 use mathlib.Core.List.{List}
 use lib.ListN.{take}
-use Rattle.majority.specs.Check.{Reply, accepted, refused, counts}
+use Rattle.refusals.specs.Reply.{Reply, accepted, refused}
+use Rattle.majority.specs.Check.{counts}
 use Rattle.majority.specs.declared.Counts.{Counts}
 use Rattle.tables.specs.Calls.{checkOf}
 use Rattle.reading.specs.declared.Found.{Found}
@@ -19,7 +20,7 @@ claimed r = claim (r .inputs) (r .gates) (r .outputs)
 -- the used length and counts that a check gives, all zero where it refuses
 abbrev pub found : ℕ → Reply Counts → Found
 found used (accepted c) = record { used = used; inputs = c .inputs; gates = c .gates; outputs = c .outputs }
-found used (refused k i) = record { used = 0; inputs = 0; gates = 0; outputs = 0 }
+found used (refused w) = record { used = 0; inputs = 0; gates = 0; outputs = 0 }
 
 -- those of the first used bytes of xs
 unfoldable pub foundIn : List ℕ → ℕ → Found

@@ -1,1 +1,1 @@
-pub mod Held
+pub mod Held  -- what a reading holds (SPEC 7)

@@ -12,9 +12,9 @@ use Rattle.majority.specs.Table.{recordOf, blank, recordAt, WellFormed}
 use Rattle.majority.specs.Edit.{edges, redirectAll, insert}
 use Rattle.majority.specs.declared.Record.{Record}
 use Rattle.majority.proofs.Formed.{reads-lower}
-use Rattle.majority.proofs.Keeping.{Each}
-use Rattle.majority.proofs.Raise.{raised-from}
-use Rattle.majority.proofs.Insert.{insert-length, insert-old, insert-new, insert-below, raise-within}
+use Rattle.rules.proofs.KeptByNodes.{Each}
+use Rattle.rules.proofs.Raise.{raised-from}
+use Rattle.rules.proofs.Insert.{insert-length, insert-old, insert-new, insert-below, raise-within}
 use Rattle.editing.specs.Edited.{changedFrom, raise16, grown}
 use Rattle.editing.proofs.Changed.{map-at, changed-length, changed-low, changed-high, grown-length, grown-low, grown-here, grown-high}
 

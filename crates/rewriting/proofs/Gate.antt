@@ -1,37 +1,30 @@
 -- What a rule knows of its gate and of the nodes that it names.
-use Prim.Native.Nat.{ℕ, zero, suc, _+_, _-_, _*_, _≤_, _<_}
+use Prim.Native.Nat.{ℕ, suc, _+_, _-_, _*_, _≤_, _<_}
 use mathlib.Core.Path.{_≡_, refl, ap, ap₂, _∙_}
 use mathlib.Core.Bool.{true, false, not}
 use mathlib.Core.List.{List}
 use native.Mathlib.Omega.{arith}
-use borrow.Author.Tests.{ltb-true, ne-eqb}
+use borrow.Author.Tests.{ltb-true}
 use lib.Dec.{ltb}
 use lib.ListN.{length}
 use Rattle.majority.specs.Edge.{nodeOf, isInverted}
 use Rattle.majority.specs.Table.{gate, Below, WellFormed}
 use Rattle.majority.specs.Edit.{nodeRecord}
-use Rattle.majority.specs.Rules.{plainGate, named, majorityForm, associativityForm, outwardForm, inwardForm, shareForm}
-use Rattle.majority.specs.Step.{badRule, fieldsFit, hasForm}
+use Rattle.rules.specs.Rules.{plainGate, named, majorityForm, associativityForm, outwardForm, inwardForm, shareForm}
+use Rattle.rules.specs.Step.{isSweep, fieldsFit, hasForm}
+use Rattle.rules.specs.declared.Rule.{Rule}
+use Rattle.rules.specs.declared.Rule.the-variants.{Exchange, Majority, Associativity, Outward, Inward, Inversion, Share, Sweep}
 use Rattle.majority.specs.declared.Record.{Record}
 use Rattle.majority.specs.declared.Counts.{Counts}
 use Rattle.majority.proofs.Logic.{both}
 use Rattle.majority.proofs.Formed.{reads-lower}
-use Rattle.majority.proofs.Gates.{GateOf}
-use Rattle.majority.proofs.Taken.{known-rule, gate-field, share-field}
+use Rattle.rules.proofs.GateNodes.{GateOf}
+use Rattle.rules.proofs.AcceptedStep.{gate-field, share-field}
 use Rattle.tables.specs.Sound.{Sound, tableIn}
 use Rattle.tables.proofs.Decoded.{length-table}
 use Rattle.tables.proofs.Sound.{sound-accepted, read-record}
 use Rattle.tables.specs.Bytes.{recordsOf}
-
--- the buffer xs has an accepted table with these counts, of which node g is a gate
-pub record AtGate (xs : List ℕ) (c : Counts) (g : ℕ) : Type 0 where
-  pub sound : Sound xs c
-  pub from : c .inputs < g
-  pub upto : g ≤ c .inputs + c .gates
-
--- there is room for k gates more
-abbrev pub Room : ℕ → List ℕ → Counts → Type 0
-Room k xs c = 8 * (c .inputs + c .gates + c .outputs + k) ≤ length xs
+use Rattle.rewriting.specs.inner.Fitting.{AtGate, Fitting}
 
 -- both records are gates that read nodes below g
 abbrev pub Inserting : ℕ → Record → Record → Type 0
@@ -48,10 +41,13 @@ node-at {xs} {c} sound k h =
     read-record sound (k - 1) (omega arith)
 
 -- fields that fit name a gate, for every rule but sweep
-pub at-gate : {xs : List ℕ} {c : Counts} → Sound xs c → (rule g a b : ℕ) → fieldsFit (c .inputs) (c .gates) rule g a b ≡ true → (rule ≡ 8 → ⊥) → AtGate xs c g
+pub at-gate : {xs : List ℕ} {c : Counts} → Sound xs c → (rule : Rule) (g a b : ℕ) → fieldsFit (c .inputs) (c .gates) rule g a b ≡ true → isSweep rule ≡ false → AtGate xs c g
 at-gate {c = c} sound rule g a b fits other =
-    let w = gate-field (c .inputs) (c .gates) rule g a b (ne-eqb rule 8 other) fits in
+    let w = gate-field (c .inputs) (c .gates) g a b rule other fits in
     record { sound = sound; from = w .0; upto = w .1 }
+
+pub fit-gate : {xs : List ℕ} {c : Counts} {rule : Rule} {g a b : ℕ} → Fitting xs c rule g a b → isSweep rule ≡ false → AtGate xs c g
+fit-gate {rule = rule} {g} {a} {b} fit other = at-gate (fit .sound) rule g a b (fit .fields) other
 
 module _ {xs : List ℕ} {c : Counts} {g : ℕ} (at : AtGate xs c g) where
   abbrev table : List Record
@@ -66,6 +62,12 @@ module _ {xs : List ℕ} {c : Counts} {g : ℕ} (at : AtGate xs c g) where
   -- node numbers are small, and so is the number of records
   pub at-small : (c .inputs ≤ 32) × (c .gates ≤ 1024) × (c .outputs ≤ 32)
   at-small = let l = sound-accepted (at .sound) .limits in (l .inputs, l .gates, l .outputs)
+
+  pub at-few : c .inputs + c .gates + c .outputs ≤ 1088
+  at-few = omega (arith, at-small)
+
+  pub at-node : g + 1 ≤ 1057
+  at-node = omega (arith, at .upto, at-small)
 
   pub at-length : length table ≡ c .inputs + c .gates + c .outputs
   at-length = length-table xs _
@@ -109,31 +111,26 @@ module _ {xs : List ℕ} {c : Counts} {g : ℕ} (at : AtGate xs c g) where
 
 -- the form that the code sees is that of the table
 module _ {xs : List ℕ} {c : Counts} (sound : Sound xs c) (g a b : ℕ) where
-  abbrev FormAt : ℕ → Type 0
+  abbrev FormAt : Rule → Type 0
   FormAt rule = hasForm (c .inputs) (recordsOf xs) rule g a ≡ hasForm (c .inputs) (tableIn xs c) rule g a
 
-  abbrev Fit : ℕ → Type 0
+  abbrev Fit : Rule → Type 0
   Fit rule = fieldsFit (c .inputs) (c .gates) rule g a b ≡ true
 
-  by-rule : (rule : ℕ) → rule ≤ 8 → Fit rule → FormAt rule
+  pub form-at : (rule : Rule) → Fit rule → FormAt rule
   unfolding hasForm
-  by-rule zero high fields = refl
-  by-rule (suc zero) high fields = refl
-  by-rule (suc (suc zero)) high fields = ap majorityForm (gate-at (at-gate sound 2 g a b fields (λ e. omega arith)))
-  by-rule (suc (suc (suc zero))) high fields =
-      let at = at-gate sound 3 g a b fields (λ e. omega arith) in
+  form-at Exchange fields = refl
+  form-at Majority fields = ap majorityForm (gate-at (at-gate sound Majority g a b fields refl))
+  form-at Associativity fields =
+      let at = at-gate sound Associativity g a b fields refl in
       ap₂ (associativityForm (c .inputs)) (gate-at at) (third-at at)
-  by-rule (suc (suc (suc (suc zero)))) high fields = ap (outwardForm (c .inputs)) (gate-at (at-gate sound 4 g a b fields (λ e. omega arith)))
-  by-rule (suc (suc (suc (suc (suc zero))))) high fields =
-      let at = at-gate sound 5 g a b fields (λ e. omega arith) in
+  form-at Outward fields = ap (outwardForm (c .inputs)) (gate-at (at-gate sound Outward g a b fields refl))
+  form-at Inward fields =
+      let at = at-gate sound Inward g a b fields refl in
       λ d. inwardForm (c .inputs) (gate-at at d) (first-at at d) (second-at at d)
-  by-rule (suc (suc (suc (suc (suc (suc zero)))))) high fields = refl
-  by-rule (suc (suc (suc (suc (suc (suc (suc zero))))))) high fields =
-      let at = at-gate sound 7 g a b fields (λ e. omega arith) in
+  form-at Inversion fields = refl
+  form-at Share fields =
+      let at = at-gate sound Share g a b fields refl in
       let low = share-field (c .inputs) (c .gates) g a b fields .1 in
       ap₂ shareForm (gate-at at) (node-at sound a (omega (arith, at .upto)))
-  by-rule (suc (suc (suc (suc (suc (suc (suc (suc zero)))))))) high fields = refl
-  by-rule (suc (suc (suc (suc (suc (suc (suc (suc (suc rule))))))))) high fields = absurd (omega arith)
-
-  pub form-at : (rule : ℕ) → badRule rule ≡ false → Fit rule → FormAt rule
-  form-at rule known fields = by-rule rule (known-rule rule known .1) fields
+  form-at Sweep fields = refl

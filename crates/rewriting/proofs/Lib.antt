@@ -1,18 +1,20 @@
-mod Gate
-mod Edits
-mod Twice
-mod Holding
-mod Marks
-mod Numbers
-mod Behind
-mod Closing
-mod Moving
-mod Swept
-mod Storing
-mod Fits
-mod Taking
-mod Replies
-pub mod Onward
-mod Turns
-mod Scripts
-pub mod SaidOnce
+-- an edit leaves the rule's table
+mod Gate  -- what a rule knows of its gate
+mod Edits  -- on an accepted table the edits of lent records are those of the rules
+mod TwoInserted  -- two gates one after the other are two at once
+mod RuleBytes  -- what the calls of a rule leave in the buffer
+-- sweep
+mod Marks  -- the marks are those of the reached nodes
+mod NewNumbers  -- the numbers that sweep gives the nodes
+mod SameRest  -- buffers that are the same from one record on
+mod ClosedGates  -- closing up the gates, record by record
+mod MovedOutputs  -- moving the outputs down closes up the whole
+mod Swept  -- closed up and cleared is swept
+-- steps and scripts
+mod HoldingInstead  -- a table in place of another, in bytes
+mod CheckedStep  -- a step on a table that was checked
+mod Replies  -- what a step replies and leaves
+pub mod SoundAfterStep  -- after a step the buffer holds a sound table
+pub mod ScriptTurns  -- a script, one turn at a time
+mod Scripts  -- what a script is, from the check and its length
+pub mod SaidOnce  -- the replies are one-to-one

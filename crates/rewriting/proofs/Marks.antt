@@ -11,16 +11,16 @@ use lib.Seq.{drop-cons, getD-set-same, getD-set-other}
 use Rattle.majority.specs.If.{if_then_else_}
 use Rattle.majority.specs.Edge.{nodeOf}
 use Rattle.majority.specs.Table.{blank, recordAt, Below, WellFormed}
-use Rattle.majority.specs.Sweep.{member, reached}
+use Rattle.rules.specs.Sweep.{member, reached}
 use Rattle.majority.specs.declared.Record.{Record}
 use Rattle.majority.specs.declared.Counts.{Counts}
 use Rattle.majority.proofs.Formed.{below-more, reads-nodes}
-use Rattle.majority.proofs.Reached.{member-here, member-other}
+use Rattle.rules.proofs.Reached.{member-here, member-other}
 use Rattle.tables.specs.Bytes.{tableOf}
 use Rattle.tables.specs.Sound.{Sound, tableIn, Fresh}
 use Rattle.tables.proofs.Sound.{sound-accepted, sound-record}
 use Rattle.editing.proofs.Loops.{read}
-use Rattle.rewriting.specs.Marks.{reachedBy, Marked, markNames}
+use Rattle.rewriting.specs.inner.Marks.{reachedBy, Marked, markNames}
 
 -- three nodes, in either order
 turned : (a b c rest : Bool) → (c || (b || (a || rest))) ≡ (a || (b || (c || rest)))
@@ -83,14 +83,7 @@ module _ {n m o : ℕ} {t : List Record} (formed : WellFormed n m o t) where
   reached-all (suc i) h = sym (reached-input i (omega arith)) ∙ reached-all i (omega arith)
 
 module _ {xs : List ℕ} {c : Counts} (sound : Sound xs c) where
-  abbrev n : ℕ
-  n = c .inputs
-
-  abbrev m : ℕ
-  m = c .gates
-
-  abbrev o : ℕ
-  o = c .outputs
+  open Counts c using (inputs as n, gates as m, outputs as o)
 
   abbrev t : List Record
   t = tableIn xs c

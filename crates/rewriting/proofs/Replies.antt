@@ -5,37 +5,40 @@ use mathlib.Core.List.{List}
 use native.Mathlib.Omega.{arith}
 use borrow.Author.Tests.{eq-eqb, le-ltb}
 use lib.ListN.{length}
-use Rattle.majority.specs.Check.{Reply, accepted, refused, andThen, count}
-use Rattle.majority.specs.Step.{step}
+use Rattle.refusals.specs.Reply.{Reply, accepted, refused, andThen}
+use Rattle.majority.specs.Check.{count}
+use Rattle.rules.specs.Step.{step}
+use Rattle.rules.specs.declared.Step.{Step}
 use Rattle.majority.specs.declared.Record.{Record}
 use Rattle.majority.specs.declared.Counts.{Counts}
-use Rattle.majority.proofs.Steps.{step-kept, step-gates}
+use Rattle.rules.proofs.Steps.{step-kept, step-gates}
 use Rattle.tables.specs.Calls.{checkOf}
 use Rattle.tables.specs.Sound.{Sound}
-use Rattle.tables.specs.Said.{refusalNumber, refusalRecord, saidCheck}
-use Rattle.tables.specs.declared.Refusal.{Refusal}
+use Rattle.refusals.specs.Why.{Why, whyOf}
+use Rattle.tables.specs.Said.{saidCheck}
+use Rattle.refusals.specs.declared.Refusal.{Refusal}
 use Rattle.tables.specs.declared.Checked.{Checked}
 use Rattle.tables.specs.declared.Checked.the-variants.{Refused}
 use Rattle.tables.proofs.Sound.{sound-accepted}
-use Rattle.tables.proofs.After.{after-refused}
-use Rattle.rewriting.specs.Applied.{usedBy, stepIn, saidApplied, AppliedTo}
+use Rattle.tables.proofs.AfterCheck.{after-refused}
+use Rattle.rewriting.specs.inner.Applied.{usedBy, stepIn, saidApplied, AppliedTo}
 use Rattle.rewriting.specs.Calls.{stepTable, stepOf, stepBytes}
 use Rattle.rewriting.specs.declared.Applied.{Applied}
 use Rattle.rewriting.specs.declared.Applied.the-variants.{Taken as AppliedTaken, Refused as AppliedRefused}
 
 -- what a taken step made, and that it has as many records as its counts say
-pub record Made (xs : List ℕ) (c : Counts) (rule g a b gates : ℕ) : Type 0 where
+pub record Made (xs : List ℕ) (c : Counts) (s : Step) (gates : ℕ) : Type 0 where
   pub table : List Record
-  pub is : stepIn xs c rule g a b ≡ accepted table
+  pub is : stepIn xs c s ≡ accepted table
   pub counted : gates ≡ count 2 table
   pub long : length table ≡ c .inputs + gates + c .outputs
   pub few : gates ≤ 1024
 
-module _ {xs : List ℕ} {c : Counts} (sound : Sound xs c) (rule g a b gates : ℕ) where
-  made : accepted gates ≡ andThen (stepIn xs c rule g a b) (λ t. accepted (count 2 t)) → Made xs c rule g a b gates
-  made e = go (stepIn xs c rule g a b) refl e
+module _ {xs : List ℕ} {c : Counts} (sound : Sound xs c) (s : Step) (gates : ℕ) where
+  made : accepted gates ≡ andThen (stepIn xs c s) (λ t. accepted (count 2 t)) → Made xs c s gates
+  made e = go (stepIn xs c s) refl e
     where
-      go : (r : Reply (List Record)) → stepIn xs c rule g a b ≡ r → accepted gates ≡ andThen r (λ t. accepted (count 2 t)) → Made xs c rule g a b gates
+      go : (r : Reply (List Record)) → stepIn xs c s ≡ r → accepted gates ≡ andThen r (λ t. accepted (count 2 t)) → Made xs c s gates
       go (accepted t) is e =
           let formed = sound-accepted sound .formed in
           let same : gates ≡ count 2 t = cc in
@@ -43,20 +46,17 @@ module _ {xs : List ℕ} {c : Counts} (sound : Sound xs c) (rule g a b gates : �
             table = t;
             is = is;
             counted = same;
-            long = step-kept formed (length xs) rule g a b t is .formed .whole ∙ ap (λ (m : ℕ). c .inputs + m + c .outputs) (sym same);
-            few = rw same (step-gates formed (length xs) rule g a b t is);
+            long = step-kept formed (length xs) s t is .formed .whole ∙ ap (λ (m : ℕ). c .inputs + m + c .outputs) (sym same);
+            few = rw same (step-gates formed (length xs) s t is);
           }
-      go (refused k i) is e = let z : _≡_ {A = ℕ} 0 1 = cc in absurd (omega arith)
+      go (refused w) is e = let z : _≡_ {A = ℕ} 0 1 = cc in absurd (omega arith)
 
-  pub taken-made : {r : Applied} {ys : List ℕ} → AppliedTo xs c rule g a b r ys → r ≡ AppliedTaken gates → Made xs c rule g a b gates
+  pub taken-made : {r : Applied} {ys : List ℕ} → AppliedTo xs c (stepIn xs c s) r ys → r ≡ AppliedTaken gates → Made xs c s gates
   taken-made done e = made (ap saidApplied (sym e) ∙ done .reply)
 
-not-taken : {A B : Type 0} (r : Reply A) (f : A → B) (k i : ℕ) → refused k i ≡ andThen r (λ x. accepted (f x)) → r ≡ refused k i
-not-taken (accepted x) f k i e = let z : _≡_ {A = ℕ} 0 1 = cc in absurd (omega arith)
-not-taken (refused j h) f k i e =
-    let p : j ≡ k = cc in
-    let q : h ≡ i = cc in
-    rw (p, q)
+not-taken : {A B : Type 0} (r : Reply A) (f : A → B) (w : Why) → refused w ≡ andThen r (λ x. accepted (f x)) → r ≡ refused w
+not-taken (accepted x) f w e = let z : _≡_ {A = ℕ} 0 1 = cc in absurd (omega arith)
+not-taken (refused v) f w e = let same : v ≡ w = cc in ap refused same
 
 -- a sound table is accepted at its own length
 pub sound-checked : {xs : List ℕ} {c : Counts} → Sound xs c → checkOf xs (usedBy c) ≡ accepted c
@@ -66,34 +66,34 @@ sound-checked {xs} {c} sound =
     let count : usedBy c / 8 ≡ c .inputs + c .gates + c .outputs = omega arith in
     rw (eq-eqb (usedBy c % 8) 0 whole, le-ltb (length xs) (usedBy c) (sound .fits), count) (sound .sound)
 
-module _ {xs : List ℕ} {c : Counts} (sound : Sound xs c) (rule g a b : ℕ) where
-  pub table-same : stepTable xs (usedBy c) rule g a b ≡ stepIn xs c rule g a b
+module _ {xs : List ℕ} {c : Counts} (sound : Sound xs c) (s : Step) where
+  pub table-same : stepTable xs (usedBy c) s ≡ stepIn xs c s
   unfolding stepTable
   table-same = let count : usedBy c / 8 ≡ c .inputs + c .gates + c .outputs = omega arith in rw (sound-checked sound, count)
 
-  pub step-leaves : {done : Applied} {ys : List ℕ} → AppliedTo xs c rule g a b done ys → ys ≡ stepBytes xs (usedBy c) rule g a b
+  pub step-leaves : {done : Applied} {ys : List ℕ} → AppliedTo xs c (stepIn xs c s) done ys → ys ≡ stepBytes xs (usedBy c) s
   unfolding stepBytes
   step-leaves applied = applied .bytes ∙ rw table-same
 
-  pub step-replies : {gates : ℕ} → Made xs c rule g a b gates → stepOf xs (usedBy c) rule g a b ≡ accepted (8 * (c .inputs + gates + c .outputs))
+  pub step-replies : {gates : ℕ} → Made xs c s gates → stepOf xs (usedBy c) s ≡ accepted (8 * (c .inputs + gates + c .outputs))
   unfolding stepOf
   step-replies m = rw (table-same, m .is, m .long)
 
-  pub step-refuses : {done : Applied} {ys : List ℕ} (refusal : Refusal) → AppliedTo xs c rule g a b done ys → done ≡ AppliedRefused refusal
-      → stepOf xs (usedBy c) rule g a b ≡ refused (refusalNumber refusal) (refusalRecord refusal)
+  pub step-refuses : {done : Applied} {ys : List ℕ} (refusal : Refusal) → AppliedTo xs c (stepIn xs c s) done ys → done ≡ AppliedRefused refusal
+      → stepOf xs (usedBy c) s ≡ refused (whyOf refusal)
   unfolding stepOf
-  step-refuses refusal applied e = rw (table-same, not-taken (stepIn xs c rule g a b) (count 2) _ _ (ap saidApplied (sym e) ∙ applied .reply))
+  step-refuses refusal applied e = rw (table-same, not-taken (stepIn xs c s) (count 2) _ (ap saidApplied (sym e) ∙ applied .reply))
 
 -- where the table is refused
-module _ (xs : List ℕ) (used : ℕ) (r : Checked) (said : saidCheck r ≡ checkOf xs used) (rule g a b : ℕ) (refusal : Refusal) (is : r ≡ Refused refusal) where
-  table-refused : stepTable xs used rule g a b ≡ refused (refusalNumber refusal) (refusalRecord refusal)
+module _ (xs : List ℕ) (used : ℕ) (r : Checked) (said : saidCheck r ≡ checkOf xs used) (s : Step) (refusal : Refusal) (is : r ≡ Refused refusal) where
+  table-refused : stepTable xs used s ≡ refused (whyOf refusal)
   unfolding stepTable
-  table-refused = after-refused xs used (λ (rs : List Record) (c : Counts). step (length xs) (c .inputs) (c .gates) rs rule g a b) r said refusal is
+  table-refused = after-refused xs used (λ (rs : List Record) (c : Counts). step (length xs) (c .inputs) (c .gates) rs s) r said refusal is
 
-  pub refused-replies : stepOf xs used rule g a b ≡ refused (refusalNumber refusal) (refusalRecord refusal)
+  pub refused-replies : stepOf xs used s ≡ refused (whyOf refusal)
   unfolding stepOf
   refused-replies = rw table-refused
 
-  pub refused-leaves : stepBytes xs used rule g a b ≡ xs
+  pub refused-leaves : stepBytes xs used s ≡ xs
   unfolding stepBytes
   refused-leaves = rw table-refused

@@ -2,7 +2,7 @@
 use Prim.Native.Nat.{ℕ}
 use mathlib.Core.Path.{_≡_, refl, sym, ap, _∙_}
 use mathlib.Core.List.{List}
-use Rattle.tables.proofs.Said.{back, once, refusalOf, refusal-back}
+use Rattle.refusals.proofs.SaidOnce.{back, once, refusalOf, refusal-back}
 use Rattle.rewriting.specs.Calls.{saidStep}
 use Rattle.rewriting.specs.Script.{End, finished, stopped, Run, saidEnd, runOf}
 use Rattle.rewriting.specs.declared.Stepped.{Stepped}
@@ -21,7 +21,7 @@ said-step-once = once Used Refused saidStep undone
 
 abbrev endingOf : End → Ending
 endingOf finished = Finished
-endingOf (stopped k i) = Stopped (refusalOf k i)
+endingOf (stopped w) = Stopped (refusalOf w)
 
 ending-back : (e : Ending) → endingOf (saidEnd e) ≡ e
 ending-back Finished = refl

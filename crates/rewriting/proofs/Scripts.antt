@@ -6,15 +6,16 @@ use borrow.Author.Tests.{eq-eqb, ne-eqb}
 use lib.ListN.{length}
 use Rattle.majority.specs.declared.Counts.{Counts}
 use Rattle.tables.specs.Calls.{checkOf}
-use Rattle.tables.specs.Said.{refusalNumber, refusalRecord, saidCheck}
-use Rattle.tables.specs.declared.Refusal.{Refusal}
+use Rattle.refusals.specs.Why.{why, whyOf}
+use Rattle.tables.specs.Said.{saidCheck}
+use Rattle.refusals.specs.declared.Refusal.{Refusal}
 use Rattle.tables.specs.declared.Checked.{Checked}
 use Rattle.tables.specs.declared.Checked.the-variants.{Accepted, Refused}
 use Rattle.rewriting.specs.Script.{scriptRun, runFrom, stepsOf, untaken}
 
 module _ (xs : List ℕ) (used : ℕ) (steps : List ℕ) (r : Checked) (said : saidCheck r ≡ checkOf xs used) where
   module _ (c : Counts) (is : r ≡ Accepted c) where
-    pub script-uneven : (length steps % 8 ≡ 0 → ⊥) → scriptRun xs used steps ≡ untaken 12 0 xs used
+    pub script-uneven : (length steps % 8 ≡ 0 → ⊥) → scriptRun xs used steps ≡ untaken (why 12) xs used
     unfolding scriptRun
     script-uneven odd = rw (sym said, is, ne-eqb (length steps % 8) 0 odd)
 
@@ -22,6 +23,6 @@ module _ (xs : List ℕ) (used : ℕ) (steps : List ℕ) (r : Checked) (said : s
     unfolding scriptRun
     script-runs even = rw (sym said, is, eq-eqb (length steps % 8) 0 even)
 
-  pub script-refused : (refusal : Refusal) → r ≡ Refused refusal → scriptRun xs used steps ≡ untaken (refusalNumber refusal) (refusalRecord refusal) xs used
+  pub script-refused : (refusal : Refusal) → r ≡ Refused refusal → scriptRun xs used steps ≡ untaken (whyOf refusal) xs used
   unfolding scriptRun
   script-refused refusal is = rw (sym said, is)

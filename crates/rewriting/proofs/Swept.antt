@@ -9,31 +9,24 @@ use lib.ListN.{length, replicate, length-append, length-replicate, getD-replicat
 use lib.Seq.{ext-getD, getD-append-add}
 use Rattle.majority.specs.Table.{blank, recordAt, WellFormed}
 use Rattle.majority.specs.Check.{count}
-use Rattle.majority.specs.Sweep.{sweep}
+use Rattle.rules.specs.Sweep.{sweep}
 use Rattle.majority.specs.declared.Record.{Record}
 use Rattle.majority.specs.declared.Counts.{Counts}
 use Rattle.majority.proofs.Order.{order-counts}
 use Rattle.majority.proofs.Accepted.{order-of}
-use Rattle.majority.proofs.Sweep.{left, left-fewer, sweep-kept}
-use Rattle.tables.specs.Bytes.{tableOf}
+use Rattle.rules.proofs.Sweep.{left, left-fewer, sweep-kept}
+use Rattle.tables.specs.Bytes.{tableOf, holding}
 use Rattle.tables.specs.Sound.{Sound, tableIn}
 use Rattle.tables.proofs.Decoded.{length-table, table-at}
 use Rattle.tables.proofs.Sound.{sound-accepted}
-use Rattle.editing.specs.Edited.{holding, changedFrom, editedFrom, clearedFrom}
+use Rattle.editing.specs.Edited.{changedFrom, editedFrom, clearedFrom}
 use Rattle.editing.proofs.Changed.{changed-length, changed-low, changed-high}
-use Rattle.rewriting.specs.Closing.{newNumber, Closed}
-use Rattle.rewriting.specs.Swept.{Swept}
-use Rattle.rewriting.proofs.Numbers.{number-gates, number-outputs}
+use Rattle.rewriting.specs.inner.ClosedUp.{newNumber, Closed}
+use Rattle.rewriting.specs.inner.Swept.{Swept}
+use Rattle.rewriting.proofs.NewNumbers.{number-gates, number-outputs}
 
 module _ {xs ys : List ℕ} {c : Counts} (sound : Sound xs c) (is : Closed xs c (c .inputs + c .gates + c .outputs) ys) (to : ℕ) (place : to ≡ newNumber (tableIn xs c) (c .inputs + c .gates)) where
-  abbrev n : ℕ
-  n = c .inputs
-
-  abbrev m : ℕ
-  m = c .gates
-
-  abbrev o : ℕ
-  o = c .outputs
+  open Counts c using (inputs as n, gates as m, outputs as o)
 
   abbrev t : List Record
   t = tableIn xs c

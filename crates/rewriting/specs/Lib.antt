@@ -1,7 +1,3 @@
-pub mod Ready
-pub mod Marks
-pub mod Closing
-pub mod Swept
-pub mod Applied
-pub mod Calls
-pub mod Script
+pub mod Calls  -- what a step replies and which bytes it leaves (SPEC 5.4)
+pub mod Script  -- scripts (SPEC 5.5)
+pub mod inner  -- what private functions keep

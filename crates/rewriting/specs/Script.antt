@@ -1,17 +1,17 @@
 -- Scripts (SPEC 5.5): steps are taken in order until one is refused, each with the used length that the one before replied.
-use Prim.Native.Nat.{ℕ, _+_, _-_, _/_, _%_}
+use Prim.Native.Nat.{ℕ, zero, suc, _+_, _-_, _/_, _%_}
 use mathlib.Core.Bool.{not}
 use mathlib.Core.List.{List, [], _∷_}
 use lib.Dec.{eqb}
 use lib.ListN.{length}
 use Rattle.majority.specs.If.{if_then_else_}
-use Rattle.majority.specs.Check.{Reply, accepted, refused}
-use Rattle.majority.specs.declared.Record.{Record}
+use Rattle.refusals.specs.Reply.{Reply, accepted, refused}
+use Rattle.rules.specs.declared.Step.{Step}
 use Rattle.majority.specs.declared.Counts.{Counts}
-use Rattle.tables.specs.Bytes.{recordsOf}
+use Rattle.tables.specs.Bytes.{fieldOf}
 use Rattle.tables.specs.Calls.{checkOf}
-use Rattle.tables.specs.Said.{refusalNumber, refusalRecord}
-use Rattle.tables.specs.declared.Refusal.{Refusal}
+use Rattle.refusals.specs.Why.{Why, why, whyOf}
+use Rattle.refusals.specs.declared.Refusal.{Refusal}
 use Rattle.rewriting.specs.Calls.{stepOf, stepBytes}
 use Rattle.rewriting.specs.declared.Ending.{Ending}
 use Rattle.rewriting.specs.declared.Ending.the-variants.{Finished, Stopped}
@@ -19,10 +19,10 @@ use Rattle.rewriting.specs.declared.Progress.{Progress}
 use Rattle.rewriting.specs.declared.Stepped.{Stepped}
 use Rattle.rewriting.specs.declared.Stepped.the-variants.{Used, Refused}
 
--- how a script ended: with no refusal, or with the refusal of this number and the record that it carries
+-- how a script ended: with no refusal, or with a refusal
 pub data End : Type 0 where
   finished : End
-  stopped : ℕ → ℕ → End
+  stopped : Why → End
 
 -- what a script replies, and the bytes that it leaves
 pub record Run : Type 0 where
@@ -31,37 +31,39 @@ pub record Run : Type 0 where
   pub used : ℕ
   pub bytes : List ℕ
 
--- the steps of a script: a step is read as a record is, its kind being the rule and its fields gate, a and b
-abbrev pub stepsOf : List ℕ → List Record
-stepsOf steps = recordsOf steps
+-- step i of a script: its eight bytes are four fields, the number of the rule, the gate, a and b
+abbrev pub stepAt : List ℕ → ℕ → Step
+stepAt xs i = record { rule = fieldOf xs i 0; gate = fieldOf xs i 1; a = fieldOf xs i 2; b = fieldOf xs i 3 }
 
--- the reply and the bytes of one step
-abbrev pub replyTo : List ℕ → ℕ → Record → Reply ℕ
-replyTo xs used r = stepOf xs used (r .kind) (r .e1) (r .e2) (r .e3)
+-- k steps of a script, from step i on
+unfoldable pub stepsFrom : List ℕ → ℕ → ℕ → List Step
+stepsFrom xs i zero = []
+stepsFrom xs i (suc k) = stepAt xs i ∷ stepsFrom xs (suc i) k
 
-abbrev pub bytesAfter : List ℕ → ℕ → Record → List ℕ
-bytesAfter xs used r = stepBytes xs used (r .kind) (r .e1) (r .e2) (r .e3)
+-- the steps of a script
+abbrev pub stepsOf : List ℕ → List Step
+stepsOf xs = stepsFrom xs 0 (length xs / 8)
 
 -- what follows an accepted step, or a refused one
-abbrev pub byReply : Reply ℕ → (ℕ → Run) → (ℕ → ℕ → Run) → Run
+abbrev pub byReply : Reply ℕ → (ℕ → Run) → (Why → Run) → Run
 byReply (accepted used) on stop = on used
-byReply (refused k i) on stop = stop k i
+byReply (refused w) on stop = stop w
 
 -- the steps, one after another, where `taken` were taken before
-unfoldable pub runFrom : ℕ → List ℕ → ℕ → List Record → Run
+unfoldable pub runFrom : ℕ → List ℕ → ℕ → List Step → Run
 runFrom taken xs used [] = record { taken = taken; end = finished; used = used; bytes = xs }
-runFrom taken xs used (r ∷ rs) =
-    byReply (replyTo xs used r)
-    (λ next. runFrom (taken + 1) (bytesAfter xs used r) next rs)
-    (λ k i. record { taken = taken; end = stopped k i; used = used; bytes = xs })
+runFrom taken xs used (s ∷ steps) =
+    byReply (stepOf xs used s)
+    (λ next. runFrom (taken + 1) (stepBytes xs used s) next steps)
+    (λ w. record { taken = taken; end = stopped w; used = used; bytes = xs })
 
 -- no step is taken
-abbrev pub untaken : ℕ → ℕ → List ℕ → ℕ → Run
-untaken k i xs used = record { taken = 0; end = stopped k i; used = used; bytes = xs }
+abbrev pub untaken : Why → List ℕ → ℕ → Run
+untaken w xs used = record { taken = 0; end = stopped w; used = used; bytes = xs }
 
 abbrev pub afterCheck : Reply Counts → List ℕ → ℕ → List ℕ → Run
-afterCheck (refused k i) xs used steps = untaken k i xs used
-afterCheck (accepted c) xs used steps = if not (eqb (length steps % 8) 0) then untaken 12 0 xs used else runFrom 0 xs used (stepsOf steps)
+afterCheck (refused w) xs used steps = untaken w xs used
+afterCheck (accepted c) xs used steps = if not (eqb (length steps % 8) 0) then untaken (why 12) xs used else runFrom 0 xs used (stepsOf steps)
 
 -- a script: refusals 1 to 5 of the table, then 12, then its steps
 unfoldable pub scriptRun : List ℕ → ℕ → List ℕ → Run
@@ -70,7 +72,7 @@ scriptRun xs used steps = afterCheck (checkOf xs used) xs used steps
 -- the end of each case of the enum, and the reply
 abbrev pub saidEnd : Ending → End
 saidEnd Finished = finished
-saidEnd (Stopped r) = stopped (refusalNumber r) (refusalRecord r)
+saidEnd (Stopped r) = stopped (whyOf r)
 
 -- the run of which p is the reply and ys are the bytes
 abbrev pub runOf : Progress → List ℕ → Run

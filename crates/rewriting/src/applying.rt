@@ -1,48 +1,42 @@
 // One step on a table that was checked.
 use crate::Applied;
 use crate::Stepped;
+use crate::changing::edit;
+use crate::forms::has_form;
 use crate::sweeping::sweep;
-use changes::edit;
-use changes::has_form;
 use majority::Counts;
 use majority::MOST_GATES;
-use rules::SWEEP;
-use rules::bad_rule;
+use refusals::Refusal;
+use rules::Named;
+use rules::Rule;
+use rules::Step;
 use rules::fields_fit;
 use rules::inserted;
-use tables::Refusal;
+use rules::is_sweep;
+use rules::rule_of;
 ghost use mathlib.Core.Path.{_≡_};
 ghost use Rattle.tables.specs.Sound.{Sound};
-ghost use Rattle.rewriting.specs.Ready.{Fitting};
-ghost use Rattle.rewriting.specs.Applied.{usedBy, Rewritten, AppliedTo};
+ghost use Rattle.rewriting.specs.inner.Fitting.{Fitting};
+ghost use Rattle.rewriting.specs.inner.Applied.{usedBy, Rewritten, ruleIn, stepIn, AppliedTo};
 ghost use Rattle.rewriting.specs.Calls.{saidStep, stepOf, stepBytes};
 
 // Rewrites by a rule that fits; answers how many gates there are then.
-fn rewrite(s: &mut [u8], counts: Counts, rule: u16, gate: u16, a: u16, b: u16) -> usize
+fn rewrite(s: &mut [u8], counts: Counts, rule: Rule, gate: u16, a: u16, b: u16) -> usize
     requires { ⌜ Fitting (now s) counts rule gate a b ⌝ }
     ensures { λ r. ⌜ Rewritten (now (s .entry)) counts rule gate a r (now (s .exit)) ⌝ }
 {
-    if rule == SWEEP {
+    if is_sweep(rule) {
         return sweep(s, counts);
     }
-    edit(
-        s,
-        counts.inputs + counts.gates + counts.outputs,
-        rule,
-        gate,
-        a,
-    );
+    edit(s, counts, rule, gate, a, b);
     counts.gates + inserted(rule)
 }
 
-// Applies one step: refusals 7 to 11 in their order, or the rule's edit.
-fn apply(s: &mut [u8], counts: Counts, rule: u16, gate: u16, a: u16, b: u16) -> Applied
+// Applies a rule: refusals 8 to 11 in their order, or its edit.
+fn apply(s: &mut [u8], counts: Counts, rule: Rule, gate: u16, a: u16, b: u16) -> Applied
     requires { ⌜ Sound (now s) counts ⌝ }
-    ensures { λ r. ⌜ AppliedTo (now (s .entry)) counts rule gate a b r (now (s .exit)) ⌝ }
+    ensures { λ r. ⌜ AppliedTo (now (s .entry)) counts (ruleIn (now (s .entry)) counts rule gate a b) r (now (s .exit)) ⌝ }
 {
-    if bad_rule(rule) {
-        return Applied::Refused(Refusal::Rule);
-    }
     if !fields_fit(counts, rule, gate, a, b) {
         return Applied::Refused(Refusal::Field);
     }
@@ -59,13 +53,24 @@ fn apply(s: &mut [u8], counts: Counts, rule: u16, gate: u16, a: u16, b: u16) -> 
     Applied::Taken(rewrite(s, counts, rule, gate, a, b))
 }
 
-// Takes one step on a table that was checked; answers the new used length, or the refusal.
-pub(crate) fn take(s: &mut [u8], counts: Counts, rule: u16, gate: u16, a: u16, b: u16) -> Stepped
+// Applies one step, by the rule that has its number.
+fn apply_step(s: &mut [u8], counts: Counts, step: Step) -> Applied
     requires { ⌜ Sound (now s) counts ⌝ }
-    ensures reply { λ r. ⌜ saidStep r ≡ stepOf (now (s .entry)) (usedBy counts) rule gate a b ⌝ }
-    ensures bytes { λ _. ⌜ now (s .exit) ≡ stepBytes (now (s .entry)) (usedBy counts) rule gate a b ⌝ }
+    ensures { λ r. ⌜ AppliedTo (now (s .entry)) counts (stepIn (now (s .entry)) counts step) r (now (s .exit)) ⌝ }
 {
-    match apply(s, counts, rule, gate, a, b) {
+    match rule_of(step.rule) {
+        Named::Known(rule) => apply(s, counts, rule, step.gate, step.a, step.b),
+        Named::Unknown => Applied::Refused(Refusal::Rule),
+    }
+}
+
+// Takes one step on a table that was checked; answers the new used length, or the refusal.
+pub(crate) fn take(s: &mut [u8], counts: Counts, step: Step) -> Stepped
+    requires { ⌜ Sound (now s) counts ⌝ }
+    ensures reply { λ r. ⌜ saidStep r ≡ stepOf (now (s .entry)) (usedBy counts) step ⌝ }
+    ensures bytes { λ _. ⌜ now (s .exit) ≡ stepBytes (now (s .entry)) (usedBy counts) step ⌝ }
+{
+    match apply_step(s, counts, step) {
         Applied::Taken(gates) => Stepped::Used(8 * (counts.inputs + gates + counts.outputs)),
         Applied::Refused(refusal) => Stepped::Refused(refusal),
     }

@@ -1,13 +1,17 @@
 // Steps and scripts on a table in a lent slice.
 mod applying;
+mod changing;
+mod forms;
+mod nodes;
 mod running;
 mod sweeping;
 
 use applying::take;
+use refusals::Refusal;
+use rules::Step;
 use running::run;
 use running::stopped;
 use tables::Checked;
-use tables::Refusal;
 use tables::check;
 ghost use mathlib.Core.Path.{_≡_};
 ghost use Prim.Native.Nat.{_<_};
@@ -61,12 +65,12 @@ impl Progress {
 }
 
 // Applies one step to the table in the first used bytes of s.
-pub fn step(s: &mut [u8], used: usize, rule: u16, gate: u16, a: u16, b: u16) -> Stepped
-    ensures reply { λ r. ⌜ saidStep r ≡ stepOf (now (s .entry)) used rule gate a b ⌝ }
-    ensures bytes { λ _. ⌜ now (s .exit) ≡ stepBytes (now (s .entry)) used rule gate a b ⌝ }
+pub fn step(s: &mut [u8], used: usize, step: Step) -> Stepped
+    ensures reply { λ r. ⌜ saidStep r ≡ stepOf (now (s .entry)) used step ⌝ }
+    ensures bytes { λ _. ⌜ now (s .exit) ≡ stepBytes (now (s .entry)) used step ⌝ }
 {
     match check(s, used) {
-        Checked::Accepted(counts) => take(s, counts, rule, gate, a, b),
+        Checked::Accepted(counts) => take(s, counts, step),
         Checked::Refused(refusal) => Stepped::Refused(refusal),
     }
 }

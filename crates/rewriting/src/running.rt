@@ -3,12 +3,13 @@ use crate::Ending;
 use crate::Progress;
 use crate::applying::take;
 use majority::Counts;
-use tables::Refusal;
-use tables::record_at;
+use refusals::Refusal;
+use rules::Step;
+use tables::field_of;
 ghost use mathlib.Core.Path.{_≡_};
 ghost use Rattle.tables.specs.Sound.{Sound};
-ghost use Rattle.rewriting.specs.Applied.{usedBy};
-ghost use Rattle.rewriting.specs.Script.{stepsOf, runFrom, runOf, stoppedBy, countsAt};
+ghost use Rattle.rewriting.specs.inner.Applied.{usedBy};
+ghost use Rattle.rewriting.specs.Script.{stepAt, stepsOf, runFrom, runOf, stoppedBy, countsAt};
 
 // The progress of a script of which no step was taken.
 pub(crate) fn stopped(used: usize, refusal: Refusal) -> Progress
@@ -18,6 +19,18 @@ pub(crate) fn stopped(used: usize, refusal: Refusal) -> Progress
         taken: 0,
         used,
         ending: Ending::Stopped(refusal),
+    }
+}
+
+// Step i of a script.
+fn step_at(steps: &[u8], i: usize) -> Step
+    ensures { λ r. ⌜ r ≡ stepAt (now (steps .entry)) i ⌝ }
+{
+    Step {
+        rule: field_of(steps, i, 0),
+        gate: field_of(steps, i, 1),
+        a: field_of(steps, i, 2),
+        b: field_of(steps, i, 3),
     }
 }
 
@@ -50,15 +63,8 @@ pub(crate) fn run(s: &mut [u8], counts: Counts, steps: &[u8]) -> Progress
             break progress;
         }
         let used = progress.used;
-        let step = record_at(steps, i);
-        let outcome = take(
-            s,
-            counts_at(counts, used),
-            step.kind,
-            step.e1,
-            step.e2,
-            step.e3,
-        );
+        let step = step_at(steps, i);
+        let outcome = take(s, counts_at(counts, used), step);
         progress = progress.after(outcome);
         let ending = progress.ending;
         match ending {

@@ -12,11 +12,11 @@ ghost use lib.ListN.{set};
 ghost use Rattle.majority.specs.Edge.{nodeOf};
 ghost use Rattle.majority.specs.Table.{Below};
 ghost use Rattle.majority.specs.Edit.{edges};
-ghost use Rattle.majority.specs.Sweep.{reached};
+ghost use Rattle.rules.specs.Sweep.{reached};
 ghost use Rattle.tables.specs.Sound.{Sound, tableIn, Fresh};
-ghost use Rattle.rewriting.specs.Marks.{reachedBy, Marked, markNames};
-ghost use Rattle.rewriting.specs.Closing.{newNumber, Lower, Numbered, renumberBy, Closed, ClosedUp, Movable, Moved};
-ghost use Rattle.rewriting.specs.Swept.{Swept};
+ghost use Rattle.rewriting.specs.inner.Marks.{reachedBy, Marked, markNames};
+ghost use Rattle.rewriting.specs.inner.ClosedUp.{newNumber, Lower, Numbered, renumberBy, Closed, ClosedUp, Movable, Moved};
+ghost use Rattle.rewriting.specs.inner.Swept.{Swept};
 
 // Marks the node that an edge names.
 fn mark(marks: &mut [bool; 1057], edge: u16)

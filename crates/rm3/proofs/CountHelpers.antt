@@ -9,12 +9,12 @@ use mir.Val.{boolByte}
 use Rattle.majority.specs.If.{if_then_else_}
 use Rattle.majority.specs.Table.{recordAt}
 use Rattle.majority.specs.Node.{byKind}
-use Rattle.majority.specs.Count3.{helpersOf, gateOperations, outputOperations, recordOperations, total}
+use Rattle.translation.specs.Count3.{helpersOf, gateOperations, outputOperations, recordOperations, total}
 use Rattle.majority.specs.declared.Record.{Record}
-use Rattle.majority.proofs.Totals.{total-next}
-use Rattle.majority.proofs.Rm3Size.{gate-most, output-most}
-use Rattle.patterns.specs.Patterns.{patternBy, patternOf}
-use Rattle.patterns.specs.declared.Pattern.{Pattern}
+use Rattle.translation.proofs.Totals.{total-next}
+use Rattle.translation.proofs.Rm3Size.{gate-most, output-most}
+use Rattle.translation.specs.Patterns.{patternBy, patternOf}
+use Rattle.translation.specs.declared.Pattern.{Pattern}
 
 -- a test as the number 0 or 1
 pub as-number : (t : Bool) → boolByte t ≡ (if t then 1 else 0)

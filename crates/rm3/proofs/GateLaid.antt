@@ -5,15 +5,15 @@ use mathlib.Core.List.{List, [], _∷_, _++_}
 use native.Mathlib.Omega.{arith}
 use lib.Dec.{eqb}
 use lib.ListN.{length}
-use Rattle.majority.specs.Translate.{Placed, place, inOrder, gate3}
+use Rattle.translation.specs.Translate.{Placed, place, inOrder, gate3}
 use Rattle.majority.specs.declared.Record.{Record}
-use Rattle.majority.proofs.Begins.{length-more}
-use Rattle.majority.proofs.Rm3Place.{place-begins}
-use Rattle.majority.proofs.Rm3Gate.{middleOf}
+use Rattle.translation.proofs.Begins.{length-more}
+use Rattle.translation.proofs.Rm3Place.{place-begins}
+use Rattle.translation.proofs.Rm3Gate.{middleOf}
 use Rattle.tables.specs.Bytes.{putRecord}
-use Rattle.rm3.specs.Laid.{Grows, Writes, Places}
+use Rattle.rm3.specs.inner.Laid.{Grows, Writes, Places}
 use Rattle.rm3.specs.declared.writing.Spot.{Spot}
-use Rattle.rm3.proofs.Laying.{grows-then, grows-put}
+use Rattle.rm3.proofs.TableLaid.{grows-then, grows-put}
 
 module _ (operands : List ℕ) (gate : Record) {at : ℕ} {first second third : Spot} {xs xs1 xs2 xs3 : List ℕ}
     (one : Places (place (eqb (middleOf gate) 1) operands (gate .e1)) at first xs xs1)

@@ -10,16 +10,16 @@ use Rattle.majority.specs.If.{if_then_else_}
 use Rattle.majority.specs.Edge.{nodeOf}
 use Rattle.majority.specs.Table.{blank, recordAt}
 use Rattle.majority.specs.Level.{above, levels, highest}
-use Rattle.majority.specs.Rm3.{operation, level3, WellFormed3}
-use Rattle.majority.specs.Translate.{Placed, classOf, needsHelper, place, inOrder, gate3}
-use Rattle.majority.specs.Count3.{helperCount}
+use Rattle.translation.specs.Rm3.{operation, level3, WellFormed3}
+use Rattle.translation.specs.Translate.{Placed, classOf, needsHelper, place, inOrder, gate3}
+use Rattle.translation.specs.Count3.{helperCount}
 use Rattle.majority.specs.declared.Record.{Record}
-use Rattle.majority.proofs.Begins.{Begins, begins-then, begins-append, begins-last, length-more}
+use Rattle.translation.proofs.Begins.{Begins, begins-then, begins-append, begins-last, length-more}
 use Rattle.majority.proofs.Levels.{above-each}
-use Rattle.majority.proofs.Rm3Worth.{operation-worth}
-use Rattle.majority.proofs.Rm3Place.{place-begins}
-use Rattle.majority.proofs.Rm3Gate.{middleOf}
-use Rattle.majority.proofs.Rm3Levels.{depth3-more}
+use Rattle.translation.proofs.Rm3Worth.{operation-worth}
+use Rattle.translation.proofs.Rm3Place.{place-begins}
+use Rattle.translation.proofs.Rm3Gate.{middleOf}
+use Rattle.translation.proofs.Rm3Levels.{depth3-more}
 use Rattle.rm3.proofs.PlaceLevels.{place-level, place-deep}
 
 above-first-second : (a b c : ℕ) → above b a c ≡ above a b c

@@ -1,16 +1,20 @@
-mod CountHelpers
-mod Placing
-mod Laying
-mod GateLaid
-mod NodeLaid
-mod Turning
-mod Going
-mod Naming
-mod Fitting
-pub mod SaidOnce
-mod PlaceLevels
-mod GateLevels
-mod Levelling
-mod Deepening
-pub mod Replies
-pub mod Claims
+-- the size
+mod CountHelpers  -- how many operations records add
+-- the bytes
+mod EdgeOperands  -- how an edge gets its operand
+mod TableLaid  -- a record more in the bytes, and the whole
+mod GateLaid  -- a gate's records in bytes
+mod NodeLaid  -- what stands for a node, in bytes
+mod TablePass  -- a pass from record to record: what is left decides
+mod NodePass  -- the pass that writes inputs and gates
+mod OutputPass  -- the pass that writes outputs and their helpers
+mod FitsBuffer  -- whether the RM3 table fits a buffer
+pub mod SaidOnce  -- the replies are one-to-one
+-- the depth
+mod PlaceLevels  -- the level of an edge's operand
+mod GateLevels  -- the level of a gate's operation
+mod LevelPass  -- the pass that sets levels
+mod DepthPass  -- the pass over the outputs for the depth
+-- what a caller may conclude
+pub mod Replies  -- what a reply of `translate` tells its caller
+pub mod Claims  -- claimed counts that are those found give the plain reply

@@ -4,12 +4,12 @@ use mathlib.Core.Path.{_≡_, refl}
 use mathlib.Core.List.{List}
 use Rattle.majority.specs.Table.{input}
 use Rattle.majority.specs.Node.{byKind}
-use Rattle.majority.specs.Translate.{after, gate3}
+use Rattle.translation.specs.Translate.{after, gate3}
 use Rattle.majority.specs.declared.Record.{Record}
 use Rattle.majority.proofs.Formed.{kind-two}
 use Rattle.tables.specs.Bytes.{putRecord}
-use Rattle.rm3.specs.Laid.{Writes}
-use Rattle.rm3.proofs.Laying.{writes-none, writes-put, writes-same}
+use Rattle.rm3.specs.inner.Laid.{Writes}
+use Rattle.rm3.proofs.TableLaid.{writes-none, writes-put, writes-same}
 
 kind-one : {A : Type 0} (k : ℕ) (i g o d : A) → k ≡ 1 → byKind k i g o d ≡ i
 kind-one k i g o d e = rw e

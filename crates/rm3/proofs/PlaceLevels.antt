@@ -10,14 +10,14 @@ use Rattle.majority.specs.If.{if_then_else_}
 use Rattle.majority.specs.Edge.{nodeOf}
 use Rattle.majority.specs.Table.{blank}
 use Rattle.majority.specs.Level.{above, levels, highest}
-use Rattle.majority.specs.Rm3.{operation, level3, WellFormed3}
-use Rattle.majority.specs.Translate.{Placed, classOf, needsHelper, place}
-use Rattle.majority.specs.Count3.{helperCount}
+use Rattle.translation.specs.Rm3.{operation, level3, WellFormed3}
+use Rattle.translation.specs.Translate.{Placed, classOf, needsHelper, place}
+use Rattle.translation.specs.Count3.{helperCount}
 use Rattle.majority.specs.declared.Record.{Record}
-use Rattle.majority.proofs.Begins.{Begins, begins-last, length-more}
-use Rattle.majority.proofs.Rm3Worth.{false-worth, true-worth, operation-worth}
-use Rattle.majority.proofs.Rm3Levels.{depth3-more}
-use Rattle.rm3.proofs.Placing.{class-constant, place-constant, place-direct, place-helped}
+use Rattle.translation.proofs.Begins.{Begins, begins-last, length-more}
+use Rattle.translation.proofs.Rm3Worth.{false-worth, true-worth, operation-worth}
+use Rattle.translation.proofs.Rm3Levels.{depth3-more}
+use Rattle.rm3.proofs.EdgeOperands.{class-constant, place-constant, place-direct, place-helped}
 
 module _ {n p o : ℕ} {whole : List Record} (formed : WellFormed3 n p o whole) where
   abbrev f : ℕ → ℕ

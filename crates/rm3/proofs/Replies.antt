@@ -6,32 +6,33 @@ use mathlib.Core.List.{List}
 use native.Mathlib.Omega.{arith}
 use borrow.Author.Tests.{ltb-false}
 use lib.Dec.{ltb}
-use lib.ListN.{length, drop}
+use lib.ListN.{length}
+use Rattle.refusals.specs.Why.{Why, why}
 use Rattle.majority.specs.If.{if_then_else_}
-use Rattle.majority.specs.Translate.{translation}
-use Rattle.majority.specs.Check.{Reply, accepted, refused, andThen}
+use Rattle.translation.specs.Translate.{translation}
+use Rattle.refusals.specs.Reply.{Reply, accepted, refused, andThen}
 use Rattle.majority.specs.declared.Record.{Record}
 use Rattle.majority.specs.declared.Counts.{Counts}
 use Rattle.tables.specs.Bytes.{tableOf}
 use Rattle.tables.specs.Sound.{tableIn}
 use Rattle.tables.specs.Calls.{checkOf}
-use Rattle.tables.proofs.Encoded.{encoded-table}
-use Rattle.tables.proofs.After.{checked-sound, checked-table}
-use Rattle.rm3.specs.Calls.{rm3In, rm3Of, inBytes, translateOf, over, translateBytes}
-use Rattle.rm3.proofs.Fitting.{fitting-size, fitting-small, fitting}
+use Rattle.tables.proofs.Encoded.{holding-table}
+use Rattle.tables.proofs.AfterCheck.{checked-sound, checked-table}
+use Rattle.rm3.specs.Calls.{rm3In, rm3Of, inBytes, translateOf, afterReply, translateBytes}
+use Rattle.rm3.proofs.FitsBuffer.{fitting-size, fitting-small, fitting}
 
 -- a reply is not both
-apart : {A : Type 0} {x : A} {k i : ℕ} → _≡_ {A = Reply A} (refused k i) (accepted x) → ⊥
+apart : {A : Type 0} {x : A} {w : Why} → _≡_ {A = Reply A} (refused w) (accepted x) → ⊥
 apart e = let z : _≡_ {A = ℕ} 0 1 = cc in omega arith
 
 same-length : {l k : ℕ} → _≡_ {A = Reply ℕ} (accepted k) (accepted l) → k ≡ l
 same-length e = cc
 
 module _ (xs : List ℕ) (used room l : ℕ) (is : accepted l ≡ translateOf xs used room) where
-  in-room : (ts : List Record) → andThen (if ltb room (8 * length ts) then refused 11 0 else accepted ts) inBytes ≡ accepted l → l ≤ room
+  in-room : (ts : List Record) → andThen (if ltb room (8 * length ts) then refused (why 11) else accepted ts) inBytes ≡ accepted l → l ≤ room
   in-room ts = go (ltb room (8 * length ts)) refl
     where
-      go : (t : Bool) → ltb room (8 * length ts) ≡ t → andThen (if t then refused 11 0 else accepted ts) inBytes ≡ accepted l → l ≤ room
+      go : (t : Bool) → ltb room (8 * length ts) ≡ t → andThen (if t then refused (why 11) else accepted ts) inBytes ≡ accepted l → l ≤ room
       go true q e = absurd (apart e)
       go false q e = omega (arith, ltb-false room (8 * length ts) q, same-length e)
 
@@ -41,7 +42,7 @@ module _ (xs : List ℕ) (used room l : ℕ) (is : accepted l ≡ translateOf xs
     where
       go : (k : Reply Counts) → andThen (andThen k (rm3In room (tableOf xs (used / 8)))) inBytes ≡ accepted l → l ≤ room
       go (accepted c) e = in-room (translation (c .inputs) (c .gates) (tableOf xs (used / 8))) e
-      go (refused k i) e = absurd (apart e)
+      go (refused w) e = absurd (apart e)
 
 module _ (xs : List ℕ) (used room : ℕ) (c : Counts) (checked : checkOf xs used ≡ accepted c) where
   abbrev ts : List Record
@@ -56,7 +57,7 @@ module _ (xs : List ℕ) (used room : ℕ) (c : Counts) (checked : checkOf xs us
   unfolding translateOf
   reply-counts l is = go (ltb room (8 * length ts)) (sym (is ∙ ap (λ (k : Reply (List Record)). andThen k inBytes) of-accepted))
     where
-      go : (t : Bool) → andThen (if t then refused 11 0 else accepted ts) inBytes ≡ accepted l → c .inputs + c .outputs ≤ l / 8
+      go : (t : Bool) → andThen (if t then refused (why 11) else accepted ts) inBytes ≡ accepted l → c .inputs + c .outputs ≤ l / 8
       go true e = absurd (apart e)
       go false e = omega (arith, same-length e, fitting-size (checked-sound xs used c checked))
 
@@ -76,6 +77,6 @@ module _ (xs : List ℕ) (used : ℕ) (ys : List ℕ) (l : ℕ) (c : Counts) (ch
   unfolding translateOf translateBytes rm3Of
   reply-table = rw checked (go (ltb (length ys) (8 * length made)) (rw checked at is))
     where
-      go : (t : Bool) → andThen (if t then refused 11 0 else accepted made) inBytes ≡ accepted l → tableOf (over (if t then refused 11 0 else accepted made) ys) (l / 8) ≡ made
+      go : (t : Bool) → andThen (if t then refused (why 11) else accepted made) inBytes ≡ accepted l → tableOf (afterReply (if t then refused (why 11) else accepted made) ys) (l / 8) ≡ made
       go true e = absurd (apart e)
-      go false e = let k : l / 8 ≡ length made = omega (arith, same-length e) in rw k (encoded-table made (drop (8 * length made) ys))
+      go false e = let k : l / 8 ≡ length made = omega (arith, same-length e) in rw k (holding-table made ys)

@@ -1,6 +1,6 @@
 -- The replies are one-to-one: no two values of an enum are said alike, so a promise has one reply.
 use mathlib.Core.Path.{_≡_, refl, ap}
-use Rattle.tables.proofs.Said.{back, once, refusal-back}
+use Rattle.refusals.proofs.SaidOnce.{back, once, refusal-back}
 use Rattle.rm3.specs.declared.Translated.{Translated}
 use Rattle.rm3.specs.declared.Translated.the-variants.{Length, Refused}
 use Rattle.rm3.specs.declared.Depth.{Depth}

@@ -1,22 +1,23 @@
 -- What each call replies, and the bytes that it leaves (SPEC 6).
 use Prim.Native.Nat.{ℕ, _*_, _/_}
-use mathlib.Core.List.{List, _++_}
-use lib.ListN.{length, drop}
+use mathlib.Core.List.{List}
+use lib.ListN.{length}
 use lib.Dec.{ltb}
+use Rattle.refusals.specs.Why.{why}
 use Rattle.majority.specs.If.{if_then_else_}
-use Rattle.majority.specs.Check.{Reply, accepted, refused, andThen}
-use Rattle.majority.specs.Rm3.{depth3}
-use Rattle.majority.specs.Translate.{translation, operations}
+use Rattle.refusals.specs.Reply.{Reply, accepted, refused, andThen}
+use Rattle.translation.specs.Rm3.{depth3}
+use Rattle.translation.specs.Translate.{translation, operations}
 use Rattle.majority.specs.declared.Record.{Record}
 use Rattle.majority.specs.declared.Counts.{Counts}
-use Rattle.tables.specs.Bytes.{tableOf, encode}
+use Rattle.tables.specs.Bytes.{tableOf, holding}
 use Rattle.tables.specs.Calls.{checkOf}
 
 -- the RM3 table of a table with these counts, for a buffer of so many bytes; 11 where it does not fit
 abbrev pub rm3In : ℕ → List Record → Counts → Reply (List Record)
 rm3In room rs c =
     let ts = translation (c .inputs) (c .gates) rs in
-    if ltb room (8 * length ts) then refused 11 0 else accepted ts
+    if ltb room (8 * length ts) then refused (why 11) else accepted ts
 
 -- the RM3 table of the first used bytes of xs, or the refusal
 unfoldable pub rm3Of : List ℕ → ℕ → ℕ → Reply (List Record)
@@ -29,13 +30,13 @@ inBytes ts = accepted (8 * length ts)
 unfoldable pub translateOf : List ℕ → ℕ → ℕ → Reply ℕ
 translateOf xs used room = andThen (rm3Of xs used room) inBytes
 
--- the bytes ys of a buffer with a table at their beginning; the same bytes after a refusal
-abbrev pub over : Reply (List Record) → List ℕ → List ℕ
-over (accepted ts) ys = encode ts ++ drop (8 * length ts) ys
-over (refused k i) ys = ys
+-- the bytes that a reply leaves: those of the RM3 table, or all as they were
+abbrev pub afterReply : Reply (List Record) → List ℕ → List ℕ
+afterReply (accepted ts) ys = holding ts ys
+afterReply (refused w) ys = ys
 
 unfoldable pub translateBytes : List ℕ → ℕ → List ℕ → List ℕ
-translateBytes xs used ys = over (rm3Of xs used (length ys)) ys
+translateBytes xs used ys = afterReply (rm3Of xs used (length ys)) ys
 
 -- the depth of the RM3 table of a table with these counts
 abbrev pub depthIn : List Record → Counts → Reply ℕ

@@ -2,12 +2,12 @@
 use Prim.Native.Nat.{ℕ}
 use mathlib.Core.List.{List}
 use lib.ListN.{length}
-use Rattle.majority.specs.Check.{Reply, andThen}
+use Rattle.refusals.specs.Reply.{Reply, andThen}
 use Rattle.majority.specs.declared.Record.{Record}
 use Rattle.majority.specs.declared.Counts.{Counts}
 use Rattle.tables.specs.Bytes.{recordsOf}
 use Rattle.tables.specs.Claimed.{claimedCheck}
-use Rattle.rm3.specs.Calls.{rm3In, inBytes, over}
+use Rattle.rm3.specs.Calls.{rm3In, inBytes, afterReply}
 
 -- the RM3 table of all bytes of xs, or the refusal
 unfoldable pub claimedRm3 : List ℕ → Counts → ℕ → Reply (List Record)
@@ -17,4 +17,4 @@ unfoldable pub claimedTranslate : List ℕ → Counts → ℕ → Reply ℕ
 claimedTranslate xs claim room = andThen (claimedRm3 xs claim room) inBytes
 
 unfoldable pub claimedBytes : List ℕ → Counts → List ℕ → List ℕ
-claimedBytes xs claim ys = over (claimedRm3 xs claim (length ys)) ys
+claimedBytes xs claim ys = afterReply (claimedRm3 xs claim (length ys)) ys

@@ -1,7 +1,7 @@
 -- The document's reply for each case of the enums (SPEC 3 and 6).
 use Prim.Native.Nat.{ℕ}
-use Rattle.majority.specs.Check.{Reply, accepted, refused}
-use Rattle.tables.specs.Said.{refusalNumber, refusalRecord}
+use Rattle.refusals.specs.Reply.{Reply, accepted, refused}
+use Rattle.refusals.specs.Why.{whyOf}
 use Rattle.rm3.specs.declared.Translated.{Translated}
 use Rattle.rm3.specs.declared.Translated.the-variants.{Length, Refused}
 use Rattle.rm3.specs.declared.Depth.{Depth}
@@ -9,8 +9,8 @@ use Rattle.rm3.specs.declared.Depth.the-variants.{Depth as Deep, Refused
 
 abbrev pub saidTranslate : Translated → Reply ℕ
 saidTranslate (Length l) = accepted l
-saidTranslate (Refused r) = refused (refusalNumber r) (refusalRecord r)
+saidTranslate (Refused r) = refused (whyOf r)
 
 abbrev pub saidDepth : Depth → Reply ℕ
 saidDepth (Deep d) = accepted d
-saidDepth (DepthRefused r) = refused (refusalNumber r) (refusalRecord r)
+saidDepth (DepthRefused r) = refused (whyOf r)

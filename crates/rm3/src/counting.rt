@@ -2,12 +2,12 @@
 use majority::Counts;
 use majority::GATE;
 use majority::Record;
-use patterns::output_helped;
-use patterns::pattern_of;
 use tables::record_at;
+use translation::output_helped;
+use translation::pattern_of;
 ghost use mathlib.Core.Path.{_≡_};
-ghost use Rattle.majority.specs.Count3.{gateOperations, recordOperations};
-ghost use Rattle.majority.specs.Translate.{operations as operationsOf};
+ghost use Rattle.translation.specs.Count3.{gateOperations, recordOperations};
+ghost use Rattle.translation.specs.Translate.{operations as operationsOf};
 ghost use Rattle.tables.specs.Sound.{Sound, tableIn};
 
 // How many operations a gate becomes: its helpers and its own.

@@ -3,19 +3,19 @@ use majority::Counts;
 use majority::Record;
 use majority::higher;
 use majority::node;
-use patterns::output_helped;
-use patterns::pattern_of;
 use tables::record_at;
+use translation::output_helped;
+use translation::pattern_of;
 ghost use mathlib.Core.Path.{_≡_};
 ghost use Prim.Native.Nat.{_+_, _≤_, _<_};
 ghost use lib.ListN.{getD};
 ghost use Rattle.majority.specs.If.{if_then_else_};
 ghost use Rattle.majority.specs.Edge.{nodeOf};
 ghost use Rattle.majority.specs.Table.{Below};
-ghost use Rattle.majority.specs.Rm3.{depth3};
-ghost use Rattle.majority.specs.Translate.{translation, operations};
+ghost use Rattle.translation.specs.Rm3.{depth3};
+ghost use Rattle.translation.specs.Translate.{translation, operations};
 ghost use Rattle.tables.specs.Sound.{Sound, tableIn, Fresh};
-ghost use Rattle.rm3.specs.Levelled.{gateLevel, outputDepth, Levelled};
+ghost use Rattle.rm3.specs.inner.Levelled.{gateLevel, outputDepth, Levelled};
 
 // The level of an edge's operand: that of its node's, and one more where the edge has a helper.
 fn edge_level(levels: &[u16; 1057], edge: u16, helped: bool) -> u16

@@ -7,28 +7,29 @@ use majority::GATE;
 use majority::INPUT;
 use majority::Record;
 use majority::node;
-use patterns::in_order;
-use patterns::operation;
-use patterns::output;
-use patterns::output_helped;
-use patterns::pattern_of;
+use refusals::Refusal;
 use tables::Checked;
-use tables::Refusal;
 use tables::put_record;
 use tables::record_at;
+use translation::in_order;
+use translation::operation;
+use translation::output;
+use translation::output_helped;
+use translation::pattern_of;
 ghost use mathlib.Core.Path.{_≡_};
 ghost use mathlib.Core.Bool.{false};
 ghost use Prim.Native.Nat.{_+_, _*_, _≤_, _<_};
 ghost use lib.ListN.{length};
-ghost use Rattle.majority.specs.Check.{accepted, andThen};
+ghost use Rattle.refusals.specs.Reply.{andThen};
 ghost use Rattle.majority.specs.Edge.{nodeOf};
 ghost use Rattle.majority.specs.Table.{Below};
-ghost use Rattle.majority.specs.Translate.{after, classOf, needsHelper, place as placeOf, gate3, translation};
+ghost use Rattle.translation.specs.Translate.{after, classOf, needsHelper, place as placeOf, gate3, translation};
+ghost use Rattle.tables.specs.Bytes.{holding};
 ghost use Rattle.tables.specs.Sound.{Sound, SoundAfter, tableIn, Fresh};
 ghost use Rattle.tables.specs.Said.{saidCheck};
 ghost use Rattle.rm3.specs.Said.{saidTranslate};
-ghost use Rattle.rm3.specs.Calls.{rm3In, inBytes, over};
-ghost use Rattle.rm3.specs.Laid.{Places, Writes, operandsIn, Gone, LaidWhole};
+ghost use Rattle.rm3.specs.Calls.{rm3In, inBytes, afterReply};
+ghost use Rattle.rm3.specs.inner.Laid.{Places, Writes, operandsIn, Gone, LaidWhole};
 
 // The operand of an edge, and how many records the table then has.
 pub(crate) struct Spot {
@@ -147,7 +148,7 @@ fn put_outputs(
 // Writes the RM3 table, for which there is room; first of its records are inputs and operations.
 fn write(s: &[u8], counts: Counts, first: usize, out: &mut [u8])
     requires { ⌜ Sound (now s) counts × (first ≡ operandsIn (tableIn (now s) counts) counts) × (8 * (first + counts .outputs) ≤ length (now out)) ⌝ }
-    ensures { λ _. ⌜ now (out .exit) ≡ over (accepted (translation (counts .inputs) (counts .gates) (tableIn (now (s .entry)) counts))) (now (out .entry)) ⌝ }
+    ensures { λ _. ⌜ now (out .exit) ≡ holding (translation (counts .inputs) (counts .gates) (tableIn (now (s .entry)) counts)) (now (out .entry)) ⌝ }
 {
     let mut operands = [0u16; 1057];
     let made = put_nodes(&mut operands, s, counts, out);
@@ -158,7 +159,7 @@ fn write(s: &[u8], counts: Counts, first: usize, out: &mut [u8])
 fn written(s: &[u8], counts: Counts, out: &mut [u8]) -> Translated
     requires { ⌜ Sound (now s) counts ⌝ }
     ensures reply { λ r. ⌜ saidTranslate r ≡ andThen (rm3In (length (now (out .entry))) (tableIn (now (s .entry)) counts) counts) inBytes ⌝ }
-    ensures bytes { λ _. ⌜ now (out .exit) ≡ over (rm3In (length (now (out .entry))) (tableIn (now (s .entry)) counts) counts) (now (out .entry)) ⌝ }
+    ensures bytes { λ _. ⌜ now (out .exit) ≡ afterReply (rm3In (length (now (out .entry))) (tableIn (now (s .entry)) counts) counts) (now (out .entry)) ⌝ }
 {
     let first = counts.inputs + operations(s, counts);
     let length = 8 * (first + counts.outputs);
@@ -173,7 +174,7 @@ fn written(s: &[u8], counts: Counts, out: &mut [u8]) -> Translated
 pub(crate) fn written_after(s: &[u8], checked: Checked, out: &mut [u8]) -> Translated
     requires { ⌜ SoundAfter (now s) (saidCheck checked) ⌝ }
     ensures reply { λ r. ⌜ saidTranslate r ≡ andThen (andThen (saidCheck checked) (λ c. rm3In (length (now (out .entry))) (tableIn (now (s .entry)) c) c)) inBytes ⌝ }
-    ensures bytes { λ _. ⌜ now (out .exit) ≡ over (andThen (saidCheck checked) (λ c. rm3In (length (now (out .entry))) (tableIn (now (s .entry)) c) c)) (now (out .entry)) ⌝ }
+    ensures bytes { λ _. ⌜ now (out .exit) ≡ afterReply (andThen (saidCheck checked) (λ c. rm3In (length (now (out .entry))) (tableIn (now (s .entry)) c) c)) (now (out .entry)) ⌝ }
 {
     match checked {
         Checked::Accepted(counts) => written(s, counts, out),

@@ -4,7 +4,7 @@ use majority::flipped;
 use majority::inverted;
 use majority::node;
 ghost use mathlib.Core.Path.{_≡_};
-ghost use Rattle.majority.specs.Rules.{plainGate, majorityForm, associativityForm, outwardForm, inwardForm, shareForm};
+ghost use Rattle.rules.specs.Rules.{plainGate, majorityForm, associativityForm, outwardForm, inwardForm, shareForm};
 
 // Among so many inputs, the edge names a gate and is not inverted.
 pub fn plain_gate(inputs: usize, edge: u16) -> bool

@@ -6,7 +6,7 @@ ghost use mathlib.Core.Path.{_≡_};
 ghost use Rattle.majority.specs.Edge.{flip};
 ghost use Rattle.majority.specs.Table.{gate};
 ghost use Rattle.majority.specs.Edit.{edges};
-ghost use Rattle.majority.specs.Rules.{exchanged as exchangedGate, majorityEdge};
+ghost use Rattle.rules.specs.Rules.{exchanged as exchangedGate, majorityEdge};
 
 fn gate_of(x: u16, y: u16, z: u16) -> Record
     ensures { λ r. ⌜ r ≡ gate x y z ⌝ }

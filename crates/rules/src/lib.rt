@@ -1,17 +1,8 @@
-// The rules by value: the fields that a step may have, the form that a rule asks of its gate, and the gates and edges that it makes.
+// What a rule asks for and makes, by value: the fields that a step may have, the form of its gate, and the gates and edges that it makes.
 mod fields;
 mod forms;
 mod gates;
 
-pub use fields::ASSOCIATIVITY;
-pub use fields::EXCHANGE;
-pub use fields::INVERSION;
-pub use fields::INWARD;
-pub use fields::MAJORITY;
-pub use fields::OUTWARD;
-pub use fields::SHARE;
-pub use fields::SWEEP;
-pub use fields::bad_rule;
 pub use fields::fields_fit;
 pub use fields::inserted;
 pub use forms::associativity_form;
@@ -30,3 +21,63 @@ pub use gates::majority_edge;
 pub use gates::outward_first;
 pub use gates::outward_gate;
 pub use gates::outward_second;
+ghost use mathlib.Core.Path.{_≡_};
+ghost use Rattle.rules.specs.Step.{ruleOf, saidRule, isSweep};
+
+// A step: the number of its rule, and its three fields.
+pub struct Step {
+    pub rule: u16,
+    pub gate: u16,
+    pub a: u16,
+    pub b: u16,
+}
+
+// The rules, in the order of their numbers.
+pub enum Rule {
+    Exchange,
+    Majority,
+    Associativity,
+    Outward,
+    Inward,
+    Inversion,
+    Share,
+    Sweep,
+}
+
+// The rule that has a number, if any.
+pub enum Named {
+    Known(Rule),
+    Unknown,
+}
+
+pub fn rule_of(number: u16) -> Named
+    ensures { λ r. ⌜ saidRule r ≡ ruleOf number ⌝ }
+{
+    match number {
+        1 => Named::Known(Rule::Exchange),
+        2 => Named::Known(Rule::Majority),
+        3 => Named::Known(Rule::Associativity),
+        4 => Named::Known(Rule::Outward),
+        5 => Named::Known(Rule::Inward),
+        6 => Named::Known(Rule::Inversion),
+        7 => Named::Known(Rule::Share),
+        8 => Named::Known(Rule::Sweep),
+        _ => Named::Unknown,
+    }
+}
+
+// The rule is sweep, the one that names no gate.
+pub fn is_sweep(rule: Rule) -> bool
+    ensures { λ r. ⌜ r ≡ isSweep rule ⌝ }
+{
+    match rule {
+        Rule::Exchange => false,
+        Rule::Majority => false,
+        Rule::Associativity => false,
+        Rule::Outward => false,
+        Rule::Inward => false,
+        Rule::Inversion => false,
+        Rule::Share => false,
+        Rule::Sweep => true,
+    }
+}

@@ -1,1 +1,1 @@
-pub mod Sheet
+pub mod Sheet  -- every example is answered as it says

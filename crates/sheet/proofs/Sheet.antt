@@ -8,20 +8,19 @@ use Rattle.majority.specs.Seek.{firstFrom}
 use Rattle.majority.specs.Check.{kindBefore, badKindAt, count, faultOf, faultyAt, checkFields, checkKinds, checkRecords}
 use Rattle.majority.specs.Edge.{flip, raise, redirect}
 use Rattle.majority.specs.Edit.{redirectAll, insert, become}
-use Rattle.majority.specs.Rules.{majorityForm, majorityRule, associativityForm, associativity, outwardForm, outward}
-use Rattle.majority.specs.Sweep.{member, stays, renumber, closeUp, sweep}
-use Rattle.majority.specs.Translate.{classOf, middle, place, gate3, parts3, translation, operations}
-use Rattle.majority.specs.Step.{fieldsFit, hasForm, rewritten, step}
+use Rattle.rules.specs.Rules.{majorityForm, majorityRule, associativityForm, associativity, outwardForm, outward}
+use Rattle.rules.specs.Sweep.{member, stays, renumber, closeUp, sweep}
+use Rattle.translation.specs.Translate.{classOf, middle, place, gate3, parts3, translation, operations}
+use Rattle.rules.specs.Step.{ruleOf, fieldsFit, hasForm, rewritten, stepBy, step}
 use Rattle.tables.specs.Field.{fieldAt}
-use Rattle.tables.specs.Bytes.{decode, encode}
+use Rattle.tables.specs.Bytes.{decode, fieldOf, encode, holding}
 use Rattle.tables.specs.Calls.{checkOf}
 use Rattle.questions.specs.Calls.{evaluateOf, reportOf}
 use Rattle.rm3.specs.Calls.{rm3Of}
-use Rattle.rewriting.specs.Applied.{stored}
-use Rattle.rewriting.specs.Calls.{stepTable, stepOf, stepBytes}
-use Rattle.rewriting.specs.Script.{runFrom, scriptRun}
+use Rattle.rewriting.specs.Calls.{holdingInstead, stepTable, stepOf, stepBytes}
+use Rattle.rewriting.specs.Script.{stepsFrom, runFrom, scriptRun}
 use Rattle.sheet.specs.Sheet.{Example, answerTo, sheet}
 
 pub answered : map (λ (e : Example). answerTo (e .question)) sheet ≡ map (λ (e : Example). e .answer) sheet
-unfolding evaluateOf reportOf outputNumber number outputValue depth highest worth worths recordWorth edgeWorth majorityOf above encode checkOf decode fieldAt checkRecords checkKinds checkFields badKindAt kindBefore count faultOf faultyAt firstFrom flip raise redirect redirectAll insert become majorityForm majorityRule associativityForm associativity outwardForm outward member stays renumber closeUp sweep fieldsFit hasForm rewritten step stored stepTable stepOf stepBytes runFrom scriptRun rm3Of classOf middle place gate3 parts3 translation operations
+unfolding evaluateOf reportOf outputNumber number outputValue depth highest worth worths recordWorth edgeWorth majorityOf above encode checkOf decode fieldOf fieldAt checkRecords checkKinds checkFields badKindAt kindBefore count faultOf faultyAt firstFrom flip raise redirect redirectAll insert become majorityForm majorityRule associativityForm associativity outwardForm outward member stays renumber closeUp sweep ruleOf fieldsFit hasForm rewritten stepBy step holding holdingInstead stepTable stepOf stepBytes stepsFrom runFrom scriptRun rm3Of classOf middle place gate3 parts3 translation operations
 answered = refl

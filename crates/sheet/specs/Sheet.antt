@@ -2,9 +2,10 @@
 use Prim.Native.Nat.{ℕ, _*_, _/_}
 use mathlib.Core.List.{List, [], _∷_, _++_, map}
 use lib.ListN.{length, replicate}
+use Rattle.refusals.specs.Why.{Why, why}
 use Rattle.majority.specs.Table.{input, gate, output}
-use Rattle.majority.specs.Check.{Reply, accepted, refused}
-use Rattle.majority.specs.Rm3.{operation}
+use Rattle.refusals.specs.Reply.{Reply, accepted, refused}
+use Rattle.translation.specs.Rm3.{operation}
 use Rattle.majority.specs.declared.Record.{Record}
 use Rattle.majority.specs.declared.Counts.{Counts}
 use Rattle.tables.specs.Bytes.{encode, tableOf}
@@ -30,8 +31,8 @@ pub data Question : Type 0 where
 pub data Answer : Type 0 where
   -- accepted, with so many inputs, gates and outputs
   counts : ℕ → ℕ → ℕ → Answer
-  -- the refusal of this number, with this record
-  refusal : ℕ → ℕ → Answer
+  -- refused, and why
+  refusal : Why → Answer
   -- these replies, one after another
   replies : List (Reply ℕ) → Answer
   -- so many gates, and this depth
@@ -43,18 +44,18 @@ pub data Answer : Type 0 where
 
 abbrev pub checkAnswer : Reply Counts → Answer
 checkAnswer (accepted c) = counts (c .inputs) (c .gates) (c .outputs)
-checkAnswer (refused k i) = refusal k i
+checkAnswer (refused w) = refusal w
 
 abbrev pub sizeAnswer : Reply Size → Answer
 sizeAnswer (accepted w) = size (w .gates) (w .depth)
-sizeAnswer (refused k i) = refusal k i
+sizeAnswer (refused w) = refusal w
 
 abbrev pub runAnswer : Run → Answer
 runAnswer r = leaves (r .taken) (r .end) (tableOf (r .bytes) (r .used / 8))
 
 abbrev pub rm3Answer : Reply (List Record) → Answer
 rm3Answer (accepted ts) = makes ts
-rm3Answer (refused k i) = refusal k i
+rm3Answer (refused w) = refusal w
 
 -- the answer, by the definitions
 abbrev pub answerTo : Question → Answer
@@ -139,6 +140,6 @@ sheet =
     ∷ report P8 ⟶ size 3 2
     ∷ translate P8 ⟶ makes (input ∷ input ∷ input ∷ operation 0 3 1 ∷ operation 2 5 4 ∷ operation 2 4 3 ∷ operation 7 6 4 ∷ output 8 ∷ output 6 ∷ [])
     -- P9: an empty table. P10: 12 bytes
-    ∷ whole [] ⟶ refusal 3 0
-    ∷ check (replicate 12 0) 12 ⟶ refusal 1 0
+    ∷ whole [] ⟶ refusal (why 3)
+    ∷ check (replicate 12 0) 12 ⟶ refusal (why 1)
     ∷ []

@@ -6,8 +6,8 @@ use program::Called;
 use program::End;
 use program::Program;
 use rewriting::Stepped;
+use rules::Step;
 use tables::Checked;
-use tables::Refusal;
 use text::Line;
 
 // An input.
@@ -67,11 +67,6 @@ fn asked(what: &[u8], number: u16, rest: &[u8]) -> Line {
         .word(b": ")
 }
 
-// The answer of a refusal.
-fn refused(line: Line, r: Refusal) -> Line {
-    line.refused(tables::refusal_number(r), tables::refusal_record(r))
-}
-
 // What was asked, with the check's answer.
 fn checked(line: Line, table: &[u8; program::MOST_BYTES], used: usize) -> Line {
     match tables::check(table, used) {
@@ -81,7 +76,7 @@ fn checked(line: Line, table: &[u8; program::MOST_BYTES], used: usize) -> Line {
             .number(c.gates as u64)
             .word(b" outputs ")
             .number(c.outputs as u64),
-        Checked::Refused(r) => refused(line, r),
+        Checked::Refused(r) => line.refused(r),
     }
 }
 
@@ -112,9 +107,15 @@ fn associativity(table: &mut [u8; program::MOST_BYTES], used: usize, count: u16)
 {
     let line = asked(b"rule 3 at ", count, b" gates");
     tables::put_record(table, count as usize + 1, gate(6));
-    match rewriting::step(table, used, 3, count + 2, 0, 0) {
+    let step = Step {
+        rule: 3,
+        gate: count + 2,
+        a: 0,
+        b: 0,
+    };
+    match rewriting::step(table, used, step) {
         Stepped::Used(n) => line.word(b"accepted, length ").number(n as u64),
-        Stepped::Refused(r) => refused(line, r),
+        Stepped::Refused(r) => line.refused(r),
     }
 }
 

@@ -8,10 +8,12 @@ use native.Mathlib.Omega.{arith}
 use borrow.Author.Tests.{le-ltb, eq-eqb, eqb-true, not-false}
 use lib.Dec.{ltb, eqb}
 use lib.ListN.{length}
+use Rattle.refusals.specs.Why.{why, whyAt}
 use Rattle.majority.specs.If.{if_then_else_}
 use Rattle.majority.specs.Seek.{first}
 use Rattle.majority.specs.Table.{recordAt}
-use Rattle.majority.specs.Check.{Reply, accepted, refused, andThen, badKindAt, countsOf, badCounts, faultOf, faultyAt, checkFields, checkKinds, checkRecords}
+use Rattle.refusals.specs.Reply.{Reply, accepted, refused, andThen}
+use Rattle.majority.specs.Check.{badKindAt, countsOf, badCounts, faultOf, faultyAt, checkFields, checkKinds, checkRecords}
 use Rattle.majority.specs.declared.Record.{Record}
 use Rattle.majority.specs.declared.Counts.{Counts}
 use Rattle.majority.proofs.Logic.{neither, passed}
@@ -22,9 +24,9 @@ use Rattle.tables.specs.declared.Checked.{Checked}
 use Rattle.tables.specs.declared.checking.Claim.the-variants.{Any, Only}
 use Rattle.tables.specs.Calls.{badLength, checkOf}
 use Rattle.tables.specs.Claimed.{otherCounts, checkCounted, checkClaimed, claimedCheck}
-use Rattle.tables.specs.Under.{checkUnder, checkUsed}
+use Rattle.tables.specs.inner.Under.{checkUnder, checkUsed}
 use Rattle.tables.proofs.Runs.{or-true}
-use Rattle.tables.proofs.After.{same-table, checked-table, checked-sound}
+use Rattle.tables.proofs.AfterCheck.{same-table, checked-table, checked-sound}
 
 -- counts are none other than themselves
 own-counts : (c : Counts) → otherCounts c c ≡ false
@@ -43,11 +45,11 @@ or-false : (t : Bool) → (t || false) ≡ t
 or-false true = refl
 or-false false = refl
 
-counted-own : (c : Counts) (rs : List Record) → checkCounted c rs c ≡ (if badCounts c then refused 3 0 else checkFields c rs)
+counted-own : (c : Counts) (rs : List Record) → checkCounted c rs c ≡ (if badCounts c then refused (why 3) else checkFields c rs)
 unfolding checkCounted
 counted-own c rs = rw (own-counts c, or-false (badCounts c))
 
-counted-other : (claim : Counts) (rs : List Record) (found : Counts) → otherCounts claim found ≡ true → checkCounted claim rs found ≡ refused 3 0
+counted-other : (claim : Counts) (rs : List Record) (found : Counts) → otherCounts claim found ≡ true → checkCounted claim rs found ≡ refused (why 3)
 unfolding checkCounted
 counted-other claim rs found e = rw (e, or-true (badCounts found))
 
@@ -56,13 +58,13 @@ unfolding checkFields
 fields-counts found rs c e =
     let last = found .inputs + found .gates in
     let bad = first (faultyAt last rs) (length rs) in
-    let h = passed (ltb bad (length rs)) (faultOf last bad (recordAt rs bad)) bad (accepted found) c e .1 in
+    let h = passed (ltb bad (length rs)) (whyAt (faultOf last bad (recordAt rs bad)) bad) (accepted found) c e .1 in
     cc
 
 counted-accepted : (claim : Counts) (rs : List Record) (found c : Counts) → checkCounted claim rs found ≡ accepted c → (claim ≡ found) × (found ≡ c)
 unfolding checkCounted
 counted-accepted claim rs found c e =
-    let w = passed (badCounts found || otherCounts claim found) 3 0 _ c e in
+    let w = passed (badCounts found || otherCounts claim found) (why 3) _ c e in
     (same-counts claim found (neither (badCounts found) _ (w .0) .1), fields-counts found rs c (w .1))
 
 module _ (rs : List Record) where
@@ -71,8 +73,8 @@ module _ (rs : List Record) where
   unfolding checkKinds
   kinds-then f g e = go (ltb (first (badKindAt rs) (length rs)) (length rs))
     where
-      go : (t : Bool) → andThen (if t then refused 2 (first (badKindAt rs) (length rs)) else accepted (countsOf rs)) f
-          ≡ andThen (if t then refused 2 (first (badKindAt rs) (length rs)) else accepted (countsOf rs)) g
+      go : (t : Bool) → andThen (if t then refused (whyAt 2 (first (badKindAt rs) (length rs))) else accepted (countsOf rs)) f
+          ≡ andThen (if t then refused (whyAt 2 (first (badKindAt rs) (length rs))) else accepted (countsOf rs)) g
       go true = refl
       go false = e
 
@@ -82,13 +84,13 @@ module _ (rs : List Record) where
   records-counted = kinds-then _ (λ c. checkCounted c rs c) (sym (counted-own (countsOf rs) rs))
 
   accepted-then : (claim c : Counts) (kinds : Reply Counts) → andThen kinds (checkCounted claim rs) ≡ accepted c → (andThen kinds (λ d. checkCounted d rs d) ≡ accepted c) × (claim ≡ c)
-  accepted-then claim c (refused k i) e = let z : _≡_ {A = ℕ} 0 1 = cc in absurd (omega arith)
+  accepted-then claim c (refused w) e = let z : _≡_ {A = ℕ} 0 1 = cc in absurd (omega arith)
   accepted-then claim c (accepted found) e =
       let w = counted-accepted claim rs found c e in
       (rw (w .0) at e, w .0 ∙ w .1)
 
   then-claimed : (c : Counts) (kinds : Reply Counts) → andThen kinds (λ d. checkCounted d rs d) ≡ accepted c → andThen kinds (checkCounted c rs) ≡ accepted c
-  then-claimed c (refused k i) e = e
+  then-claimed c (refused w) e = e
   then-claimed c (accepted found) e = ap (λ (d : Counts). checkCounted d rs found) (sym (counted-accepted found rs found c e .1)) ∙ e
 
 module _ (xs : List ℕ) where
@@ -99,7 +101,7 @@ module _ (xs : List ℕ) where
   own-length = rw (le-ltb (length xs) (length xs) (le-refl (length xs)), or-false (not (eqb (length xs % 8) 0)))
 
   -- the plain check of all bytes
-  check-counted : checkOf xs (length xs) ≡ (if not (eqb (length xs % 8) 0) then refused 1 0 else andThen (checkKinds held) (λ c. checkCounted c held c))
+  check-counted : checkOf xs (length xs) ≡ (if not (eqb (length xs % 8) 0) then refused (why 1) else andThen (checkKinds held) (λ c. checkCounted c held c))
   unfolding checkOf
   check-counted = rw (own-length, records-counted held)
 
@@ -120,15 +122,15 @@ module _ (xs : List ℕ) where
 
     -- others are claimed: 1, 2 and then 3
     pub claimed-other : otherCounts claim (countsOf held) ≡ true
-        → claimedCheck xs claim ≡ (if not (eqb (length xs % 8) 0) then refused 1 0 else andThen (checkKinds held) (λ c. refused 3 0))
+        → claimedCheck xs claim ≡ (if not (eqb (length xs % 8) 0) then refused (why 1) else andThen (checkKinds held) (λ c. refused (why 3)))
     unfolding claimedCheck checkClaimed
-    claimed-other e = rw (kinds-then held (checkCounted claim held) (λ c. refused 3 0) (counted-other claim held (countsOf held) e))
+    claimed-other e = rw (kinds-then held (checkCounted claim held) (λ c. refused (why 3)) (counted-other claim held (countsOf held) e))
 
     -- what is accepted is what the plain check accepts, with the counts claimed
     pub claimed-accepted : (c : Counts) → claimedCheck xs claim ≡ accepted c → (checkOf xs (length xs) ≡ accepted c) × (claim ≡ c)
     unfolding claimedCheck checkClaimed
     claimed-accepted c e =
-        let w = passed (not (eqb (length xs % 8) 0)) 1 0 _ c e in
+        let w = passed (not (eqb (length xs % 8) 0)) (why 1) _ c e in
         let v = accepted-then held claim c (checkKinds held) (w .1) in
         (check-counted ∙ rw (w .0) (v .0), v .1)
 
@@ -136,7 +138,7 @@ module _ (xs : List ℕ) where
     pub accepted-claimed : checkOf xs (length xs) ≡ accepted claim → claimedCheck xs claim ≡ accepted claim
     unfolding claimedCheck checkClaimed
     accepted-claimed e =
-        let w = passed (not (eqb (length xs % 8) 0)) 1 0 _ claim (sym check-counted ∙ e) in
+        let w = passed (not (eqb (length xs % 8) 0)) (why 1) _ claim (sym check-counted ∙ e) in
         rw (w .0) (then-claimed held claim (checkKinds held) (w .1))
 
     -- what a call that checks the claim first knows of an accepted table, and what it replies

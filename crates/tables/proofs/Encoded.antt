@@ -6,16 +6,18 @@ use mathlib.Core.List.{List, [], _∷_, _++_}
 use native.Mathlib.Omega.{arith}
 use borrow.Author.Tests.{ltb-false, eqb-true, not-false}
 use lib.Dec.{ltb, eqb}
-use lib.ListN.{length, getD, drop}
+use lib.ListN.{length, getD, drop, length-append, length-drop}
 use lib.Seq.{drop-cons, getD-append-add, ext-getD}
+use Rattle.refusals.specs.Why.{why}
+use Rattle.refusals.specs.Reply.{accepted, refused}
 use Rattle.majority.specs.If.{if_then_else_}
 use Rattle.majority.specs.Table.{blank, recordAt}
-use Rattle.majority.specs.Check.{accepted, refused, checkRecords}
+use Rattle.majority.specs.Check.{checkRecords}
 use Rattle.majority.specs.declared.Record.{Record}
 use Rattle.majority.specs.declared.Counts.{Counts}
 use Rattle.majority.proofs.Logic.{neither}
 use Rattle.tables.specs.Field.{joined, fieldAt}
-use Rattle.tables.specs.Bytes.{recordIn, decode, tableOf, fieldBytes, recordBytes, encode}
+use Rattle.tables.specs.Bytes.{recordIn, decode, tableOf, fieldBytes, recordBytes, encode, holding}
 use Rattle.tables.specs.Calls.{badLength, checkOf}
 use Rattle.tables.proofs.Decoded.{length-table, table-at}
 
@@ -63,7 +65,7 @@ pub accepted-records : (xs : List ℕ) (used : ℕ) (c : Counts) → checkOf xs 
 unfolding checkOf
 accepted-records xs used c e = go (badLength xs used) refl e
   where
-    go : (t : Bool) → badLength xs used ≡ t → (if t then refused 1 0 else checkRecords (tableOf xs (used / 8))) ≡ accepted c
+    go : (t : Bool) → badLength xs used ≡ t → (if t then refused (why 1) else checkRecords (tableOf xs (used / 8))) ≡ accepted c
         → (used % 8 ≡ 0) × (used ≤ length xs) × (checkRecords (tableOf xs (used / 8)) ≡ accepted c)
     go true q h = let z : _≡_ {A = ℕ} 0 1 = cc in absurd (omega arith)
     go false q h =
@@ -125,3 +127,13 @@ pub encoded-table : (t : List Record) (rest : List ℕ) → tableOf (encode t ++
 encoded-table t rest =
     ext-getD blank _ _ (length-table _ (length t))
     (λ j h. let l : j < length t = omega (arith, length-table (encode t ++ rest) (length t)) in table-at _ (length t) j l ∙ encoded-at t rest j l)
+
+-- a buffer that holds a table has the length that it had, and that table
+module _ (t : List Record) (xs : List ℕ) where
+  pub holding-length : 8 * length t ≤ length xs → length (holding t xs) ≡ length xs
+  unfolding holding
+  holding-length fits = simp (length-append, length-drop) (omega (arith, length-encode t))
+
+  pub holding-table : tableOf (holding t xs) (length t) ≡ t
+  unfolding holding
+  holding-table = encoded-table t _

@@ -8,16 +8,18 @@ use native.Mathlib.Omega.{arith}
 use borrow.Author.Tests.{lt-ltb, le-ltb, eqb-false, not-true}
 use lib.Dec.{ltb, eqb}
 use lib.ListN.{length}
+use Rattle.refusals.specs.Why.{whyAt}
 use Rattle.majority.specs.Seek.{firstFrom, first}
 use Rattle.majority.specs.Table.{recordAt}
-use Rattle.majority.specs.Check.{accepted, refused, badKindAt, countsOf, faultOf, faultyAt, checkFields, checkKinds}
+use Rattle.refusals.specs.Reply.{accepted, refused}
+use Rattle.majority.specs.Check.{badKindAt, countsOf, faultOf, faultyAt, checkFields, checkKinds}
 use Rattle.majority.specs.declared.Record.{Record}
 use Rattle.majority.specs.declared.Counts.{Counts}
 use Rattle.majority.proofs.Logic.{passed}
 use Rattle.majority.proofs.Seek.{seek-start, holds-there, all-fail, seek-found, seek-past, same-found}
 use Rattle.majority.proofs.Order.{InOrder, all-counted, in-order}
 use Rattle.tables.specs.Bytes.{recordIn, recordAs, recordsOf, tableOf}
-use Rattle.tables.specs.Runs.{faultyAs}
+use Rattle.tables.specs.inner.Runs.{faultyAs}
 use Rattle.tables.proofs.Decoded.{length-table, table-at}
 
 module _ (xs : List ℕ) (n : ℕ) (c : Counts) where
@@ -34,7 +36,7 @@ module _ (xs : List ℕ) (n : ℕ) (c : Counts) where
     ordered : InOrder (c .inputs) (c .gates) (c .outputs) rs × (length rs ≡ c .inputs + c .gates + c .outputs)
     unfolding checkKinds
     ordered =
-        let w = passed (ltb (first (badKindAt rs) (length rs)) (length rs)) 2 (first (badKindAt rs) (length rs)) (accepted (countsOf rs)) c kinds in
+        let w = passed (ltb (first (badKindAt rs) (length rs)) (length rs)) (whyAt 2 (first (badKindAt rs) (length rs))) (accepted (countsOf rs)) c kinds in
         let same : countsOf rs ≡ c = let e = w .1 in cc in
         let good = all-fail (badKindAt rs) (length rs) (w .0) in
         subst (λ (k : Counts). InOrder (k .inputs) (k .gates) (k .outputs) rs × (length rs ≡ k .inputs + k .gates + k .outputs)) same (in-order rs good, all-counted rs good)
@@ -88,7 +90,7 @@ module _ (xs : List ℕ) (n : ℕ) (c : Counts) where
       fault-is : faultOf last bad (recordAt rs bad) ≡ f
       fault-is = ap (faultOf last bad) (table-at xs n bad h ∙ sym (er ∙ table-at xs (length xs / 8) bad (omega arith))) ∙ sym ef
 
-      pub fault-stop : checkFields c rs ≡ refused f bad
+      pub fault-stop : checkFields c rs ≡ refused (whyAt f bad)
       unfolding checkFields
       fault-stop = rw (length-table xs n, ← is, lt-ltb bad n h, fault-is)
 

@@ -9,13 +9,15 @@ use native.Mathlib.Decide.{decLt}
 use borrow.Author.Tests.{lt-ltb, le-ltb, eqb-true, eqb-false, not-false, not-true}
 use lib.Dec.{ltb}
 use lib.ListN.{length}
+use Rattle.refusals.specs.Why.{whyAt}
 use Rattle.majority.specs.Seek.{first}
 use Rattle.majority.specs.Table.{recordAt}
-use Rattle.majority.specs.Check.{counts, accepted, refused, badKind, kindBefore, badKindAt, checkKinds}
+use Rattle.refusals.specs.Reply.{accepted, refused}
+use Rattle.majority.specs.Check.{counts, badKind, kindBefore, badKindAt, checkKinds}
 use Rattle.majority.specs.declared.Record.{Record}
 use Rattle.majority.proofs.Seek.{found-at, found-in, fails-before, holds-there, nothing-there}
 use Rattle.majority.proofs.Order.{InOrder, order-good, order-counts}
-use Rattle.tables.specs.Runs.{otherKind, runEnd}
+use Rattle.tables.specs.inner.Runs.{otherKind, runEnd}
 
 -- one run
 module _ (rs : List Record) (n k from : ℕ) (inside : from ≤ n) where
@@ -109,7 +111,7 @@ module _ (rs : List Record) (n : ℕ) (all : length rs ≡ n) where
           omega arith
 
   -- the kinds decide: the first bad one, or the counts
-  kinds-stop : end < n → checkKinds rs ≡ refused 2 end
+  kinds-stop : end < n → checkKinds rs ≡ refused (whyAt 2 end)
   unfolding checkKinds
   kinds-stop h =
       let bad : first (badKindAt rs) n ≡ end = found-at (badKindAt rs) n 0 end (omega arith) (omega arith) (λ l a b. runs-good l b) (end-bad h) in
@@ -134,7 +136,7 @@ module _ (rs : List Record) (n : ℕ) (all : length rs ≡ n) where
     pub runs-inside : (i ≤ j) × (j ≤ k) × (k ≤ n)
     runs-inside = rw (ei, nodes-found, end-found) (nodes-in .0, end-in .0, end-in .1)
 
-    pub runs-stop : k < n → checkKinds rs ≡ refused 2 k
+    pub runs-stop : k < n → checkKinds rs ≡ refused (whyAt 2 k)
     runs-stop = rw end-found kinds-stop
 
     pub runs-pass : n ≤ k → checkKinds rs ≡ accepted (counts i (j - i) (n - j))

@@ -1,7 +1,7 @@
 -- Records in bytes (SPEC 2.1): four fields of 16 bits each, and no header.
 use Prim.Native.Nat.{ℕ, zero, suc, _+_, _*_, _/_, _%_}
-use mathlib.Core.List.{List, [], _∷_}
-use lib.ListN.{length}
+use mathlib.Core.List.{List, [], _∷_, _++_}
+use lib.ListN.{length, drop}
 use lib.Dec.{ltb}
 use Rattle.majority.specs.If.{if_then_else_}
 use Rattle.majority.specs.Table.{recordOf}
@@ -29,9 +29,9 @@ tableOf xs n = decode xs 0 n
 abbrev pub recordsOf : List ℕ → List Record
 recordsOf xs = tableOf xs (length xs / 8)
 
--- field d of record i of the bytes xs, 0 where they do not hold the record whole
+-- field d, below 4, of the eight bytes i of xs, 0 where xs does not hold them whole
 unfoldable pub fieldOf : List ℕ → ℕ → ℕ → ℕ
-fieldOf xs i d = if ltb i (length xs / 8) then fieldAt xs (4 * i + d) else 0
+fieldOf xs i d = if ltb i (length xs / 8) then (if ltb d 4 then fieldAt xs (4 * i + d) else 0) else 0
 
 -- the bytes of a field, and of a record, before others
 abbrev pub fieldBytes : ℕ → List ℕ → List ℕ
@@ -44,6 +44,10 @@ recordBytes r rest = fieldBytes (r .kind) (fieldBytes (r .e1) (fieldBytes (r .e2
 unfoldable pub encode : List Record → List ℕ
 encode [] = []
 encode (r ∷ rs) = recordBytes r (encode rs)
+
+-- the buffer xs with the table t at its front, and the rest as it was
+unfoldable pub holding : List Record → List ℕ → List ℕ
+holding t xs = encode t ++ drop (8 * length t) xs
 
 -- the bytes xs with r as their record i
 unfoldable pub putFields : List ℕ → ℕ → Record → List ℕ

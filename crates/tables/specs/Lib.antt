@@ -1,8 +1,7 @@
-pub mod Field
-pub mod Bytes
-pub mod Runs
-pub mod Said
-pub mod Sound
-pub mod Calls
-pub mod Claimed
-pub mod Under
+pub mod Field  -- 16-bit fields of bytes (SPEC 2.1)
+pub mod Bytes  -- records in bytes (SPEC 2.1)
+pub mod Calls  -- what the check replies (SPEC 3)
+pub mod Claimed  -- what it replies where counts are claimed (SPEC 7)
+pub mod Said  -- the reply of each case of the enum
+pub mod Sound  -- what a call knows of an accepted table
+pub mod inner  -- what private functions keep

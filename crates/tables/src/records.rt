@@ -21,15 +21,17 @@ pub(crate) fn record_as(s: &[u8], i: usize, kind: u16) -> Record
     }
 }
 
-// Field d of record i, or 0 where the slice does not hold the record whole.
-fn field_of(s: &[u8], i: usize, d: usize) -> u16
-    requires { ⌜ d < 4 ⌝ }
+// Field d, below 4, of the eight bytes i, or 0 where the slice does not hold them whole.
+pub fn field_of(s: &[u8], i: usize, d: usize) -> u16
     ensures { λ r. ⌜ r ≡ fieldOf (now (s .entry)) i d ⌝ }
 {
-    if i < s.len() / 8 {
-        return get(s, 4 * i + d);
+    if s.len() / 8 <= i {
+        return 0;
     }
-    0
+    if 4 <= d {
+        return 0;
+    }
+    get(s, 4 * i + d)
 }
 
 // Record i, or the blank record where the slice does not hold it whole. Field by field: a record handed on whole goes through one register.

@@ -1,3 +1,3 @@
-mod Appending
-mod Numbering
-mod Digits
+mod WordPut  -- a word put behind the first bytes of a room
+mod DigitCount  -- a number has one count of decimal digits
+mod Digits  -- a text read digit by digit

@@ -1,2 +1,2 @@
-pub mod Shown
-pub mod Spelled
+pub mod Shown  -- what a line shows (SPEC 9)
+pub mod Spelled  -- what a text spells in decimal (SPEC 9)

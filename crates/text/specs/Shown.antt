@@ -4,6 +4,7 @@ use mathlib.Core.List.{List, [], _∷_, _++_}
 use lib.ListN.{length, take, drop, replicate}
 use lib.Dec.{ltb}
 use Rattle.io.specs.Digits.{digits}
+use Rattle.refusals.specs.Why.{Why}
 use Rattle.majority.specs.Seek.{firstFrom}
 use Rattle.text.specs.declared.Line.{Line}
 
@@ -44,8 +45,8 @@ abbrev pub atWord : List ℕ
 atWord = 32 ∷ 97 ∷ 116 ∷ 32 ∷ []
 
 -- the line with a refusal after its text: its number and the record that it carries
-unfoldable pub withRefusal : Line → ℕ → ℕ → Line
-withRefusal l number at = withWord (withWord (withWord (withWord l refusedWord) (decimal number)) atWord) (decimal at)
+unfoldable pub withRefusal : Line → Why → Line
+withRefusal l w = withWord (withWord (withWord (withWord l refusedWord) (decimal (w .number))) atWord) (decimal (w .place))
 
 -- the low 32 bits of a number, low byte first
 abbrev pub fourBytes : ℕ → List ℕ

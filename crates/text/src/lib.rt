@@ -3,7 +3,11 @@ mod spelling;
 
 ghost use mathlib.Core.Path.{_≡_};
 ghost use Prim.Native.Nat.{_%_, min};
+ghost use Rattle.refusals.specs.Why.{whyOf};
 ghost use Rattle.text.specs.Shown.{lineOf, appended, emptyLine, withWord, decimal, withRefusal, fourBytes};
+use refusals::Refusal;
+use refusals::refusal_number;
+use refusals::refusal_record;
 pub use spelling::Decimal;
 pub use spelling::number_of;
 
@@ -56,13 +60,13 @@ impl Line {
     }
 
     // The line with a refusal after its text: its number, and the record that it carries.
-    pub fn refused(self, number: u32, at: usize) -> Line
-        ensures { λ r. ⌜ r ≡ withRefusal self number at ⌝ }
+    pub fn refused(self, refusal: Refusal) -> Line
+        ensures { λ r. ⌜ r ≡ withRefusal self (whyOf refusal) ⌝ }
     {
         self.word(b"refused ")
-            .number(number as u64)
+            .number(refusal_number(refusal) as u64)
             .word(b" at ")
-            .number(at as u64)
+            .number(refusal_record(refusal) as u64)
     }
 
     // The bytes, of which the first so many as `length` says are the text.

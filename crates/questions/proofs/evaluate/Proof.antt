@@ -2,7 +2,7 @@
 use borrow.Author.Needs.{needs}
 use mathlib.Core.Path.{sym, _∙_}
 use Rattle.questions.specs.Calls.{evaluateOf, valueOf}
-use Rattle.tables.proofs.After.{checked-sound, after-check}
+use Rattle.tables.proofs.AfterCheck.{checked-sound, after-check}
 use Rattle.questions.proofs.evaluate.Statement.{statement}
 use Rattle.questions.proofs.evaluate.Tie as tie
 

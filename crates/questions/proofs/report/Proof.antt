@@ -2,11 +2,11 @@
 use borrow.Author.Needs.{needs}
 use mathlib.Core.Path.{sym, _∙_}
 use mathlib.Core.List.{List}
-use Rattle.majority.specs.Check.{accepted}
+use Rattle.refusals.specs.Reply.{accepted}
 use Rattle.majority.specs.declared.Record.{Record}
 use Rattle.majority.specs.declared.Counts.{Counts}
 use Rattle.questions.specs.Calls.{reportOf, sizeOf}
-use Rattle.tables.proofs.After.{checked-sound, after-check}
+use Rattle.tables.proofs.AfterCheck.{checked-sound, after-check}
 use Rattle.questions.proofs.report.Statement.{statement}
 use Rattle.questions.proofs.report.Tie as tie
 

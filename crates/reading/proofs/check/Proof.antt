@@ -12,7 +12,7 @@ use Rattle.tables.specs.Claimed.{claimedCheck}
 use Rattle.tables.specs.declared.Checked.{Checked}
 use Rattle.tables.proofs.Checked as S
 use Rattle.tables.proofs.Checked.Laws as S′
-use Rattle.reading.proofs.Asks as asks
+use Rattle.reading.proofs.AskedOfReading as asks
 use Rattle.reading.proofs.check_parts.Symbol as parts-def
 use Rattle.reading.proofs.check_parts.Symbol.{name as #check-parts}
 use Rattle.reading.proofs.check_parts.Met as parts-thm

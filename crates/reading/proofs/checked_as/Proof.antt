@@ -12,7 +12,7 @@ use Rattle.tables.specs.Claimed.{claimedCheck}
 use Rattle.tables.specs.declared.Checked.{Checked}
 use Rattle.tables.proofs.Checked as S
 use Rattle.tables.proofs.Checked.Laws as S′
-use Rattle.reading.proofs.Makes as makes
+use Rattle.reading.proofs.AskedOfRecords as makes
 use Rattle.reading.proofs.hold.Symbol as hold-def
 use Rattle.reading.proofs.hold.Symbol.{name as #hold}
 use Rattle.reading.proofs.hold.Met as hold-thm

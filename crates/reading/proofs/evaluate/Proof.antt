@@ -49,7 +49,7 @@ use Rattle.reading.specs.Held.{claimed}
 use Rattle.reading.specs.declared.Reading.{Reading}
 use Rattle.reading.proofs.Reading as T
 use Rattle.reading.proofs.Reading.Laws as T′
-use Rattle.reading.proofs.Asks.{B}
+use Rattle.reading.proofs.AskedOfReading.{B}
 use Rattle.reading.proofs.evaluate_parts as parts
 use Rattle.reading.proofs.evaluate_parts.Symbol as parts-def
 use Rattle.reading.proofs.evaluate_parts.Symbol.{name as #evaluate-parts}

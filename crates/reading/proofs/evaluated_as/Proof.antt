@@ -45,8 +45,8 @@ use Rattle.reading.specs.Held.{claim, claimed}
 use Rattle.reading.specs.declared.Reading.{Reading}
 use Rattle.reading.proofs.Reading as T
 use Rattle.reading.proofs.Reading.Laws as T′
-use Rattle.reading.proofs.Asks.{B}
-use Rattle.reading.proofs.Makes.{Hold, Made, same}
+use Rattle.reading.proofs.AskedOfReading.{B}
+use Rattle.reading.proofs.AskedOfRecords.{Hold, Made, same}
 use Rattle.reading.proofs.hold as hold
 use Rattle.reading.proofs.hold.Symbol as hold-def
 use Rattle.reading.proofs.hold.Symbol.{name as #hold}

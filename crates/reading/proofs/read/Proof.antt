@@ -45,8 +45,8 @@ use Rattle.reading.proofs.Found as F
 use Rattle.reading.proofs.Found.Laws as F′
 use Rattle.reading.proofs.Reading as T
 use Rattle.reading.proofs.Reading.Laws as T′
-use Rattle.reading.proofs.Asks.{B}
-use Rattle.reading.proofs.Makes.{Hold, Made}
+use Rattle.reading.proofs.AskedOfReading.{B}
+use Rattle.reading.proofs.AskedOfRecords.{Hold, Made}
 use Rattle.reading.proofs.hold as hold
 use Rattle.reading.proofs.hold.Symbol as hold-def
 use Rattle.reading.proofs.hold.Symbol.{name as #hold}

@@ -12,7 +12,7 @@ use Rattle.questions.specs.Claimed.{claimedReport}
 use Rattle.questions.specs.declared.Reported.{Reported}
 use Rattle.questions.proofs.Reported as S
 use Rattle.questions.proofs.Reported.Laws as S′
-use Rattle.reading.proofs.Asks as asks
+use Rattle.reading.proofs.AskedOfReading as asks
 use Rattle.reading.proofs.report_parts.Symbol as parts-def
 use Rattle.reading.proofs.report_parts.Symbol.{name as #report-parts}
 use Rattle.reading.proofs.report_parts.Met as parts-thm

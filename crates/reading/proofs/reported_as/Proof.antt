@@ -12,7 +12,7 @@ use Rattle.questions.specs.Claimed.{claimedReport}
 use Rattle.questions.specs.declared.Reported.{Reported}
 use Rattle.questions.proofs.Reported as S
 use Rattle.questions.proofs.Reported.Laws as S′
-use Rattle.reading.proofs.Makes as makes
+use Rattle.reading.proofs.AskedOfRecords as makes
 use Rattle.reading.proofs.hold.Symbol as hold-def
 use Rattle.reading.proofs.hold.Symbol.{name as #hold}
 use Rattle.reading.proofs.hold.Met as hold-thm

@@ -48,7 +48,7 @@ use Rattle.majority.specs.declared.Counts.{Counts}
 use Rattle.reading.specs.declared.Reading.{Reading}
 use Rattle.reading.proofs.Reading as T
 use Rattle.reading.proofs.Reading.Laws as T′
-use Rattle.reading.proofs.Makes.{Hold, Made, same}
+use Rattle.reading.proofs.AskedOfRecords.{Hold, Made, same}
 use Rattle.reading.proofs.hold as hold
 use Rattle.reading.proofs.hold.Symbol as hold-def
 use Rattle.reading.proofs.hold.Symbol.{name as #hold}

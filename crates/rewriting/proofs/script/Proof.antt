@@ -3,7 +3,7 @@ use borrow.Author.Needs.{needs}
 use mathlib.Core.Path.{sym, ap, _∙_}
 use Prim.Native.Nat.{ℕ}
 use Rattle.tables.specs.Said.{saidCheck}
-use Rattle.tables.proofs.After.{checked-length, checked-sound}
+use Rattle.tables.proofs.AfterCheck.{checked-length, checked-sound}
 use Rattle.rewriting.specs.Script.{runOf, runFrom, stepsOf}
 use Rattle.rewriting.specs.declared.Progress.{Progress}
 use Rattle.rewriting.proofs.Scripts.{script-uneven, script-runs, script-refused}

@@ -2,7 +2,7 @@
 use borrow.Author.Needs.{needs}
 use mathlib.Core.Path.{sym, ap, _∙_}
 use Rattle.tables.specs.Said.{saidCheck}
-use Rattle.tables.proofs.After.{checked-length, checked-sound}
+use Rattle.tables.proofs.AfterCheck.{checked-length, checked-sound}
 use Rattle.rewriting.proofs.Replies.{refused-replies, refused-leaves}
 use Rattle.rewriting.proofs.step.Statement.{statement}
 use Rattle.rewriting.proofs.step.Tie as tie
@@ -30,7 +30,7 @@ same-length-2 : tie.Need-same-length-2
 same-length-2 c = search needs
 
 returns-2 : tie.Need-returns-2
-returns-2 c = (sym (refused-replies _ _ _ (c .before .before .before .check .ensures) _ _ _ _ _ (c .before .refusal .given .1)), sym (refused-leaves _ _ _ (c .before .before .before .check .ensures) _ _ _ _ _ (c .before .refusal .given .1)))
+returns-2 c = (sym (refused-replies _ _ _ (c .before .before .before .check .ensures) _ _ (c .before .refusal .given .1)), sym (refused-leaves _ _ _ (c .before .before .before .check .ensures) _ _ (c .before .refusal .given .1)))
 
 pub step-spec : {M : Type 1} → statement M
 step-spec =

@@ -1,9 +1,9 @@
 -- `rm3::rm3_depth` meets its contract: the check's refusal, or the depth of the accepted table's translation.
 use mathlib.Core.Path.{sym, ap, _∙_}
 use borrow.Author.Needs.{needs}
-use Rattle.majority.specs.Check.{accepted}
+use Rattle.refusals.specs.Reply.{accepted}
 use Rattle.tables.specs.Said.{saidCheck}
-use Rattle.tables.proofs.After.{checked-sound, after-accepted, after-refused}
+use Rattle.tables.proofs.AfterCheck.{checked-sound, after-accepted, after-refused}
 use Rattle.rm3.specs.Calls.{depthIn, depthOf}
 use Rattle.rm3.proofs.rm3_depth.Statement.{statement}
 use Rattle.rm3.proofs.rm3_depth.Tie as tie

@@ -2,7 +2,7 @@
 use borrow.Author.Needs.{needs}
 use mathlib.Core.Path.{sym, _∙_}
 use lib.ListN.{length}
-use Rattle.tables.proofs.After.{checked-sound, after-check}
+use Rattle.tables.proofs.AfterCheck.{checked-sound, after-check}
 use Rattle.rm3.specs.Calls.{rm3In, rm3Of, translateOf, translateBytes}
 use Rattle.rm3.proofs.translate.Statement.{statement}
 use Rattle.rm3.proofs.translate.Tie as tie

@@ -4,7 +4,7 @@ use Prim.Native.Nat.{_≤_, _-_}
 use mathlib.Core.Path.{_≡_, _∙_, refl, sym}
 use lib.ListN.{length, length-set}
 use Rattle.text.specs.Shown.{appended}
-use Rattle.text.proofs.Appending.{leftToPut, one-more, at-end, full}
+use Rattle.text.proofs.WordPut.{leftToPut, one-more, at-end, full}
 use borrow.Author.Needs.{needs}
 use Rattle.text.proofs.put.Statement.{statement}
 use Rattle.text.proofs.put.Tie as tie

@@ -2,7 +2,7 @@
 use borrow.Author.Needs.{needs}
 use mathlib.Core.Path.{sym, _∙_}
 use mathlib.Core.List.{List}
-use Rattle.majority.specs.Check.{accepted}
+use Rattle.refusals.specs.Reply.{accepted}
 use Rattle.majority.specs.declared.Record.{Record}
 use Rattle.majority.specs.declared.Counts.{Counts}
 use Rattle.questions.specs.Calls.{sizeOf}

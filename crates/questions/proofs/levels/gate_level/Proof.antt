@@ -4,7 +4,7 @@ use borrow.Author.Needs.{needs}
 use mathlib.Core.Path.{_≡_, _∙_}
 use native.Mathlib.Omega.{arith}
 use Rattle.majority.proofs.Levels.{above-by}
-use Rattle.questions.specs.Worths.{gateLevel}
+use Rattle.questions.specs.inner.Worths.{gateLevel}
 use Rattle.questions.proofs.levels.gate_level.Statement.{statement}
 use Rattle.questions.proofs.levels.gate_level.Tie as tie
 

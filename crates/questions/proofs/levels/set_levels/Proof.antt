@@ -5,7 +5,7 @@ use Prim.Native.Nat.{_+_, _-_, _≤_}
 use native.Mathlib.Omega.{arith}
 use Rattle.majority.specs.Level.{levels as levelsOf, level as levelIn, highest, depth as depthOf}
 use Rattle.tables.specs.Sound.{tableIn}
-use Rattle.questions.specs.Worths.{Holds, gateLevel}
+use Rattle.questions.specs.inner.Worths.{Holds, gateLevel}
 use Rattle.majority.proofs.Levels.{depth-more}
 use Rattle.tables.proofs.Sound.{sound-accepted, read-record}
 use Rattle.questions.proofs.Worths.{holds-more, reads-room, gate-level, gate-level-small, levels-begin}

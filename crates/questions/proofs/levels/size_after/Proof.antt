@@ -1,11 +1,11 @@
 -- `levels::size_after` meets its contract: a refusal stands, and the size is that of the accepted table.
 use borrow.Author.Needs.{needs}
 use mathlib.Core.Path.{refl, sym, ap, _∙_}
-use Rattle.majority.specs.Check.{accepted}
+use Rattle.refusals.specs.Reply.{accepted}
 use Rattle.questions.specs.Calls.{sizeOf}
 use Rattle.tables.specs.Sound.{tableIn}
 use Rattle.tables.specs.Said.{saidCheck}
-use Rattle.tables.proofs.After.{then-accepted, then-refused}
+use Rattle.tables.proofs.AfterCheck.{then-accepted, then-refused}
 use Rattle.questions.proofs.levels.size_after.Statement.{statement}
 use Rattle.questions.proofs.levels.size_after.Tie as tie
 

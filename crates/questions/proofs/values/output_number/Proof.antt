@@ -8,7 +8,7 @@ use native.Mathlib.Omega.{arith}
 use Rattle.majority.specs.Value.{outputValue, number as numberOf, outputNumber}
 use Rattle.majority.specs.declared.Record.{Record}
 use Rattle.tables.specs.Sound.{tableIn}
-use Rattle.questions.specs.Worths.{edgeValue}
+use Rattle.questions.specs.inner.Worths.{edgeValue}
 use Rattle.tables.proofs.Sound.{sound-accepted, read-record}
 use Rattle.questions.proofs.Worths.{reads-room, output-value}
 use Rattle.questions.proofs.values.output_number.Statement.{statement}

@@ -5,7 +5,7 @@ use borrow.Author.Needs.{needs}
 use native.Mathlib.Omega.{arith}
 use Rattle.majority.specs.Value.{values as valuesOf}
 use Rattle.tables.specs.Sound.{tableIn}
-use Rattle.questions.specs.Worths.{Holds, gateValue}
+use Rattle.questions.specs.inner.Worths.{Holds, gateValue}
 use Rattle.tables.proofs.Sound.{sound-accepted, read-record}
 use Rattle.questions.proofs.Worths.{holds-more, reads-room, gate-value, values-begin}
 use Rattle.questions.proofs.values.set_gates.Statement.{statement}

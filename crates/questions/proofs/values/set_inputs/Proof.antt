@@ -3,7 +3,7 @@ use borrow.Author.Needs.{needs}
 use Prim.Native.Nat.{_-_, _≤_}
 use mathlib.Core.Path.{_≡_, refl}
 use native.Mathlib.Omega.{arith}
-use Rattle.questions.specs.Worths.{HoldsInputs}
+use Rattle.questions.specs.inner.Worths.{HoldsInputs}
 use Rattle.questions.proofs.Worths.{input-more}
 use Rattle.questions.proofs.values.set_inputs.Statement.{statement}
 use Rattle.questions.proofs.values.set_inputs.Tie as tie

@@ -1,7 +1,7 @@
 -- `values::value` meets its contract: refusal 6, or the outputs' number after the values of inputs and gates.
 use mathlib.Core.Path.{sym, ap, _∙_}
 use mathlib.Core.Bool.{false}
-use Rattle.majority.specs.Check.{accepted}
+use Rattle.refusals.specs.Reply.{accepted}
 use Rattle.tables.proofs.Sound.{fresh, sound-accepted}
 use Rattle.questions.proofs.values.value.Statement.{statement}
 use Rattle.questions.proofs.values.value.Tie as tie

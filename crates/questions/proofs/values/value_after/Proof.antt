@@ -4,7 +4,7 @@ use mathlib.Core.Path.{refl, sym, ap, _∙_}
 use Rattle.questions.specs.Calls.{valueOf}
 use Rattle.tables.specs.Sound.{tableIn}
 use Rattle.tables.specs.Said.{saidCheck}
-use Rattle.tables.proofs.After.{then-accepted, then-refused}
+use Rattle.tables.proofs.AfterCheck.{then-accepted, then-refused}
 use Rattle.questions.proofs.values.value_after.Statement.{statement}
 use Rattle.questions.proofs.values.value_after.Tie as tie
 

@@ -7,24 +7,24 @@ use Rattle.rewriting.proofs.Replies.{taken-made, step-leaves, step-repl
 use Rattle.rewriting.proofs.applying.take.Statement.{statement}
 use Rattle.rewriting.proofs.applying.take.Tie as tie
 
-apply-requires : tie.Need-apply-requires
-apply-requires c κs = search needs
+apply-step-requires : tie.Need-apply-step-requires
+apply-step-requires c κs = search needs
 
 enum-known-gates : tie.Need-enum-known-gates
 enum-known-gates c = search needs
 
-add-t13 : tie.Need-add-t13
-add-t13 c = let m = taken-made (c .before .before .before .before .before .before .before .before .before .pre) _ _ _ _ _ (c .before .before .before .before .before .before .apply .ensures) (c .before .before .gates .given .1) in
+add-t10 : tie.Need-add-t10
+add-t10 c = let m = taken-made (c .before .before .before .before .before .before .before .before .before .pre) _ _ (c .before .before .before .before .before .before .apply-step .ensures) (c .before .before .gates .given .1) in
     let l = sound-accepted (c .before .before .before .before .before .before .before .before .before .pre) .limits in
     omega (arith, m .few)
 
-add-t14 : tie.Need-add-t14
-add-t14 c = let m = taken-made (c .before .before .before .before .before .before .before .before .before .before .pre) _ _ _ _ _ (c .before .before .before .before .before .before .before .apply .ensures) (c .before .before .before .gates .given .1) in
+add-t11 : tie.Need-add-t11
+add-t11 c = let m = taken-made (c .before .before .before .before .before .before .before .before .before .before .pre) _ _ (c .before .before .before .before .before .before .before .apply-step .ensures) (c .before .before .before .gates .given .1) in
     let l = sound-accepted (c .before .before .before .before .before .before .before .before .before .before .pre) .limits in
     omega (arith, m .few)
 
-mul-t15 : tie.Need-mul-t15
-mul-t15 c = let m = taken-made (c .before .before .before .before .before .before .before .before .before .before .pre) _ _ _ _ _ (c .before .before .before .before .before .before .before .apply .ensures) (c .before .before .before .gates .given .1) in
+mul-t12 : tie.Need-mul-t12
+mul-t12 c = let m = taken-made (c .before .before .before .before .before .before .before .before .before .before .pre) _ _ (c .before .before .before .before .before .before .before .apply-step .ensures) (c .before .before .before .gates .given .1) in
     let l = sound-accepted (c .before .before .before .before .before .before .before .before .before .before .pre) .limits in
     omega (arith, m .few)
 
@@ -35,23 +35,23 @@ same-length : tie.Need-same-length
 same-length c = search needs
 
 returns : tie.Need-returns
-returns c = (sym (step-replies (c .before .before .before .before .before .before .before .before .before .before .pre) _ _ _ _ (taken-made (c .before .before .before .before .before .before .before .before .before .before .pre) _ _ _ _ _ (c .before .before .before .before .before .before .before .apply .ensures) (c .before .before .before .gates .given .1))), step-leaves (c .before .before .before .before .before .before .before .before .before .before .pre) _ _ _ _ (c .before .before .before .before .before .before .before .apply .ensures))
+returns c = (sym (step-replies (c .before .before .before .before .before .before .before .before .before .before .pre) _ (taken-made (c .before .before .before .before .before .before .before .before .before .before .pre) _ _ (c .before .before .before .before .before .before .before .apply-step .ensures) (c .before .before .before .gates .given .1))), step-leaves (c .before .before .before .before .before .before .before .before .before .before .pre) _ (c .before .before .before .before .before .before .before .apply-step .ensures))
 
 same-length-2 : tie.Need-same-length-2
 same-length-2 c = search needs
 
 returns-2 : tie.Need-returns-2
-returns-2 c = (sym (step-refuses (c .before .before .before .before .before .before .before .before .pre) _ _ _ _ _ (c .before .before .before .before .before .apply .ensures) (c .before .refusal .given .1)), step-leaves (c .before .before .before .before .before .before .before .before .pre) _ _ _ _ (c .before .before .before .before .before .apply .ensures))
+returns-2 c = (sym (step-refuses (c .before .before .before .before .before .before .before .before .pre) _ _ (c .before .before .before .before .before .apply-step .ensures) (c .before .refusal .given .1)), step-leaves (c .before .before .before .before .before .before .before .before .pre) _ (c .before .before .before .before .before .apply-step .ensures))
 
 pub take-spec : {M : Type 1} → statement M
 take-spec =
     tie.close
     (tie.spec
-    apply-requires
+    apply-step-requires
     enum-known-gates
-    add-t13
-    add-t14
-    mul-t15
+    add-t10
+    add-t11
+    mul-t12
     enum-known-refusal
     same-length
     returns

@@ -6,8 +6,8 @@ use Prim.Native.Nat.{ℕ, _+_, _-_, _≤_}
 use native.Mathlib.Omega.{arith}
 use Rattle.majority.proofs.Formed.{below-more}
 use Rattle.tables.proofs.Sound.{sound-accepted}
-use Rattle.rewriting.specs.Closing.{ClosedUp}
-use Rattle.rewriting.proofs.Closing.{close-start, close-below, close-place, close-keep, close-drop}
+use Rattle.rewriting.specs.inner.ClosedUp.{ClosedUp}
+use Rattle.rewriting.proofs.ClosedGates.{close-start, close-below, close-place, close-keep, close-drop}
 use Rattle.rewriting.proofs.sweeping.close_gates.Statement.{statement}
 use Rattle.rewriting.proofs.sweeping.close_gates.Tie as tie
 

@@ -3,8 +3,8 @@ use borrow.Author.Needs.{needs}
 use mathlib.Core.Path.{_≡_}
 use Prim.Native.Nat.{_+_, _-_, _≤_}
 use native.Mathlib.Omega.{arith}
-use Rattle.rewriting.specs.Closing.{renumberBy, Moved}
-use Rattle.rewriting.proofs.Moving.{moved-start, moved-read, moved-next}
+use Rattle.rewriting.specs.inner.ClosedUp.{renumberBy, Moved}
+use Rattle.rewriting.proofs.MovedOutputs.{moved-start, moved-read, moved-next}
 use Rattle.rewriting.proofs.sweeping.close_outputs.Statement.{statement}
 use Rattle.rewriting.proofs.sweeping.close_outputs.Tie as tie
 

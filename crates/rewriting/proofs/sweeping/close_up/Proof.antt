@@ -1,6 +1,6 @@
 -- `sweeping::close_up` meets its contract: the gates close up, and then the outputs move down.
 use Rattle.tables.proofs.Sound.{fresh, sound-accepted}
-use Rattle.rewriting.proofs.Moving.{movable, outputs-closed}
+use Rattle.rewriting.proofs.MovedOutputs.{movable, outputs-closed}
 use borrow.Author.Needs.{needs}
 use Rattle.rewriting.proofs.sweeping.close_up.Statement.{statement}
 use Rattle.rewriting.proofs.sweeping.close_up.Tie as tie

@@ -6,7 +6,7 @@ use Prim.Native.Nat.{_+_, _≤_}
 use native.Mathlib.Omega.{arith}
 use Rattle.tables.specs.Sound.{tableIn}
 use Rattle.tables.proofs.Sound.{sound-accepted}
-use Rattle.rewriting.specs.Marks.{reachedBy, Marked}
+use Rattle.rewriting.specs.inner.Marks.{reachedBy, Marked}
 use Rattle.rewriting.proofs.Marks.{read-below, mark-gate, mark-skip, mark-end}
 use Rattle.rewriting.proofs.sweeping.mark_gates.Statement.{statement}
 use Rattle.rewriting.proofs.sweeping.mark_gates.Tie as tie

@@ -4,7 +4,7 @@ use mathlib.Core.Path.{_≡_, subst}
 use Prim.Native.Nat.{_+_, _≤_, ℕ}
 use native.Mathlib.Omega.{arith}
 use Rattle.tables.specs.Sound.{tableIn}
-use Rattle.rewriting.specs.Marks.{reachedBy, Marked}
+use Rattle.rewriting.specs.inner.Marks.{reachedBy, Marked}
 use Rattle.rewriting.proofs.Marks.{read-below, mark-start, mark-output}
 use Rattle.rewriting.proofs.sweeping.mark_outputs.Statement.{statement}
 use Rattle.rewriting.proofs.sweeping.mark_outputs.Tie as tie

@@ -3,8 +3,8 @@ use borrow.Author.Needs.{needs}
 use mathlib.Core.Path.{_≡_, refl}
 use Prim.Native.Nat.{_-_, _≤_}
 use native.Mathlib.Omega.{arith}
-use Rattle.rewriting.specs.Closing.{Numbered}
-use Rattle.rewriting.proofs.Numbers.{numbered-start, numbered-more}
+use Rattle.rewriting.specs.inner.ClosedUp.{Numbered}
+use Rattle.rewriting.proofs.NewNumbers.{numbered-start, numbered-more}
 use Rattle.rewriting.proofs.sweeping.number_inputs.Statement.{statement}
 use Rattle.rewriting.proofs.sweeping.number_inputs.Tie as tie
 

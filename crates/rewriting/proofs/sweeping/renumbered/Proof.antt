@@ -1,7 +1,7 @@
 -- `sweeping::renumbered` meets its contract: no number is higher than its node's, so the edge fits.
 use borrow.Author.Needs.{needs}
 use native.Mathlib.Omega.{arith}
-use Rattle.rewriting.specs.Closing.{renumberBy}
+use Rattle.rewriting.specs.inner.ClosedUp.{renumberBy}
 use Rattle.rewriting.proofs.sweeping.renumbered.Statement.{statement}
 use Rattle.rewriting.proofs.sweeping.renumbered.Tie as tie
 

@@ -1,7 +1,7 @@
 -- `sweeping::sweep` meets its contract: the reached nodes are marked, the marked gates close up, and the rest is cleared.
 use mathlib.Core.Bool.{false}
 use native.Mathlib.Omega.{arith}
-use Rattle.majority.proofs.Sweep.{left-fewer}
+use Rattle.rules.proofs.Sweep.{left-fewer}
 use Rattle.tables.proofs.Sound.{fresh, sound-accepted}
 use Rattle.rewriting.proofs.Swept.{outputs-begin, swept}
 use borrow.Author.Needs.{needs}

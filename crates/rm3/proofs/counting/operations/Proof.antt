@@ -5,8 +5,8 @@ use native.Mathlib.Omega.{arith}
 use borrow.Author.Needs.{needs}
 use lib.ListN.{take}
 use lib.Seq.{take-all}
-use Rattle.majority.specs.Count3.{recordOperations, total}
-use Rattle.majority.proofs.Rm3Size.{operations-counted}
+use Rattle.translation.specs.Count3.{recordOperations, total}
+use Rattle.translation.proofs.Rm3Size.{operations-counted}
 use Rattle.tables.specs.Sound.{tableIn}
 use Rattle.tables.proofs.Sound.{sound-formed, read-record}
 use Rattle.rm3.proofs.CountHelpers.{record-most, counted-more}

@@ -4,7 +4,7 @@ use mathlib.Core.Bool.{Bool}
 use native.Mathlib.Omega.{arith}
 use borrow.Author.Needs.{needs}
 use Rattle.majority.specs.If.{if_then_else_}
-use Rattle.majority.specs.Count3.{recordOperations, outputOperations}
+use Rattle.translation.specs.Count3.{recordOperations, outputOperations}
 use Rattle.majority.proofs.Formed.{kind-two}
 use Rattle.rm3.proofs.CountHelpers.{as-number, none-added, output-added}
 use Rattle.rm3.proofs.counting.record_operations.Statement.{statement}

@@ -4,9 +4,9 @@ use Prim.Native.Nat.{_≤_}
 use native.Mathlib.Omega.{arith}
 use borrow.Author.Needs.{needs}
 use Rattle.majority.proofs.Levels.{above-by}
-use Rattle.patterns.specs.Patterns.{patternBy}
-use Rattle.rm3.specs.Levelled.{gateLevel}
-use Rattle.rm3.proofs.Levelling.{edges-below}
+use Rattle.translation.specs.Patterns.{patternBy}
+use Rattle.rm3.specs.inner.Levelled.{gateLevel}
+use Rattle.rm3.proofs.LevelPass.{edges-below}
 use Rattle.rm3.proofs.levels.gate_level.Statement.{statement}
 use Rattle.rm3.proofs.levels.gate_level.Tie as tie
 

@@ -6,8 +6,8 @@ use borrow.Author.Needs.{needs}
 use Rattle.majority.proofs.Formed.{below-more, reads-lower}
 use Rattle.tables.specs.Sound.{tableIn}
 use Rattle.tables.proofs.Sound.{sound-accepted, sound-formed, read-record}
-use Rattle.rm3.specs.Levelled.{gateLevel, Levelled}
-use Rattle.rm3.proofs.Levelling.{levelled-start, level-small, levelled-more}
+use Rattle.rm3.specs.inner.Levelled.{gateLevel, Levelled}
+use Rattle.rm3.proofs.LevelPass.{levelled-start, level-small, levelled-more}
 use Rattle.rm3.proofs.levels.set_levels.Statement.{statement}
 use Rattle.rm3.proofs.levels.set_levels.Tie as tie
 

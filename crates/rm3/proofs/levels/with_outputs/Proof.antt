@@ -7,7 +7,7 @@ use Rattle.majority.specs.declared.Record.{Record}
 use Rattle.majority.proofs.Formed.{reads-nodes}
 use Rattle.tables.specs.Sound.{tableIn}
 use Rattle.tables.proofs.Sound.{sound-accepted, sound-formed, read-record}
-use Rattle.rm3.proofs.Deepening.{Deepened, deepened-start, helper-small, deepened-more, deepened-end}
+use Rattle.rm3.proofs.DepthPass.{Deepened, deepened-start, helper-small, deepened-more, deepened-end}
 use Rattle.rm3.proofs.levels.with_outputs.Statement.{statement}
 use Rattle.rm3.proofs.levels.with_outputs.Tie as tie
 

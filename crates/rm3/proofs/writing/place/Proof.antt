@@ -3,10 +3,10 @@ use mathlib.Core.Path.{sym, ap, _∙_}
 use Prim.Native.Nat.{ℕ}
 use borrow.Author.Needs.{needs}
 use lib.ListN.{getD}
-use Rattle.majority.specs.Rm3.{operation as operationRecord}
+use Rattle.translation.specs.Rm3.{operation as operationRecord}
 use Rattle.tables.specs.Bytes.{putRecord}
-use Rattle.rm3.proofs.Placing.{place-constant, place-direct, place-helped}
-use Rattle.rm3.proofs.Laying.{places-same, places-more}
+use Rattle.rm3.proofs.EdgeOperands.{place-constant, place-direct, place-helped}
+use Rattle.rm3.proofs.TableLaid.{places-same, places-more}
 use Rattle.rm3.proofs.writing.place.Statement.{statement}
 use Rattle.rm3.proofs.writing.place.Tie as tie
 

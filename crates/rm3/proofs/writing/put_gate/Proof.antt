@@ -2,9 +2,9 @@
 use mathlib.Core.Path.{ap}
 use native.Mathlib.Omega.{arith}
 use borrow.Author.Needs.{needs}
-use Rattle.patterns.specs.Patterns.{patternBy}
-use Rattle.patterns.specs.declared.Pattern.{Pattern}
-use Rattle.patterns.proofs.PatternTable.{pattern-helped}
+use Rattle.translation.specs.Patterns.{patternBy}
+use Rattle.translation.specs.declared.Pattern.{Pattern}
+use Rattle.translation.proofs.PatternTable.{pattern-helped}
 use Rattle.rm3.proofs.GateLaid.{gate-writes}
 use Rattle.rm3.proofs.writing.put_gate.Statement.{statement}
 use Rattle.rm3.proofs.writing.put_gate.Tie as tie

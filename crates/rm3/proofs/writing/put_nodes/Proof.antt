@@ -6,8 +6,8 @@ use borrow.Author.Needs.{needs}
 use Rattle.majority.proofs.Formed.{below-more, reads-lower}
 use Rattle.tables.specs.Sound.{tableIn}
 use Rattle.tables.proofs.Sound.{sound-accepted, sound-formed, read-record}
-use Rattle.rm3.specs.Laid.{Gone}
-use Rattle.rm3.proofs.Going.{gone-start, gone-small, gone-more}
+use Rattle.rm3.specs.inner.Laid.{Gone}
+use Rattle.rm3.proofs.NodePass.{gone-start, gone-small, gone-more}
 use Rattle.rm3.proofs.writing.put_nodes.Statement.{statement}
 use Rattle.rm3.proofs.writing.put_nodes.Tie as tie
 

@@ -7,7 +7,7 @@ use Rattle.majority.specs.declared.Record.{Record}
 use Rattle.majority.proofs.Formed.{reads-nodes}
 use Rattle.tables.specs.Sound.{tableIn}
 use Rattle.tables.proofs.Sound.{sound-accepted, sound-formed, read-record}
-use Rattle.rm3.proofs.Naming.{Naming, naming-start, naming-small, naming-more, naming-end}
+use Rattle.rm3.proofs.OutputPass.{Naming, naming-start, naming-small, naming-more, naming-end}
 use Rattle.rm3.proofs.writing.put_outputs.Statement.{statement}
 use Rattle.rm3.proofs.writing.put_outputs.Tie as tie
 

@@ -2,7 +2,7 @@
 use native.Mathlib.Omega.{arith}
 use borrow.Author.Needs.{needs}
 use Rattle.tables.proofs.Sound.{fresh}
-use Rattle.rm3.proofs.Naming.{laid-over}
+use Rattle.rm3.proofs.OutputPass.{laid-holding}
 use Rattle.rm3.proofs.writing.write.Statement.{statement}
 use Rattle.rm3.proofs.writing.write.Tie as tie
 
@@ -20,7 +20,7 @@ returns : tie.Need-returns
 returns c = let p = c .before .before in
     let n = p .before .before .before .before .before in
     let pre = n .before .before .before .before .before .pre in
-    laid-over (pre .0) (λ i. c .slice-known3 .given i .fits) (omega (arith, n .put-nodes .ensures .laid .size, pre .1, pre .2)) (n .put-nodes .ensures) (p .put-outputs .ensures)
+    laid-holding (pre .0) (λ i. c .slice-known3 .given i .fits) (omega (arith, n .put-nodes .ensures .laid .size, pre .1, pre .2)) (n .put-nodes .ensures) (p .put-outputs .ensures)
 
 pub write-spec : {M : Type 1} → statement M
 write-spec = tie.close (tie.spec put-nodes-requires put-outputs-requires same-length returns)

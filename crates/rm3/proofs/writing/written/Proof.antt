@@ -2,7 +2,7 @@
 use mathlib.Core.Path.{refl}
 use native.Mathlib.Omega.{arith}
 use borrow.Author.Needs.{needs}
-use Rattle.rm3.proofs.Fitting.{fitting-size, fitting-small, not-fitting, fitting}
+use Rattle.rm3.proofs.FitsBuffer.{fitting-size, fitting-small, not-fitting, fitting}
 use Rattle.rm3.proofs.writing.written.Statement.{statement}
 use Rattle.rm3.proofs.writing.written.Tie as tie
 

@@ -5,7 +5,7 @@ use lib.ListN.{length}
 use Rattle.majority.specs.declared.Counts.{Counts}
 use Rattle.tables.specs.Said.{saidCheck}
 use Rattle.tables.specs.Sound.{tableIn}
-use Rattle.tables.proofs.After.{then-accepted, then-refused}
+use Rattle.tables.proofs.AfterCheck.{then-accepted, then-refused}
 use Rattle.rm3.specs.Calls.{rm3In}
 use Rattle.rm3.proofs.writing.written_after.Statement.{statement}
 use Rattle.rm3.proofs.writing.written_after.Tie as tie

@@ -1,6 +1,6 @@
 -- `fields::fields_fit` meets its contract.
 use borrow.Author.Needs.{needs}
-use Rattle.majority.specs.Step.{fieldsFit}
+use Rattle.rules.specs.Step.{fieldsFit}
 use Rattle.rules.proofs.fields.fields_fit.Statement.{statement}
 use Rattle.rules.proofs.fields.fields_fit.Tie as tie
 

@@ -1,6 +1,6 @@
 -- `forms::associativity_form` meets its contract.
 use borrow.Author.Needs.{needs}
-use Rattle.majority.specs.Rules.{associativityForm}
+use Rattle.rules.specs.Rules.{associativityForm}
 use Rattle.rules.proofs.forms.associativity_form.Statement.{statement}
 use Rattle.rules.proofs.forms.associativity_form.Tie as tie
 

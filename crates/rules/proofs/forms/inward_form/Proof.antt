@@ -1,6 +1,6 @@
 -- `forms::inward_form` meets its contract.
 use borrow.Author.Needs.{needs}
-use Rattle.majority.specs.Rules.{inwardForm}
+use Rattle.rules.specs.Rules.{inwardForm}
 use Rattle.rules.proofs.forms.inward_form.Statement.{statement}
 use Rattle.rules.proofs.forms.inward_form.Tie as tie
 

@@ -1,6 +1,6 @@
 -- `forms::majority_form` meets its contract.
 use borrow.Author.Needs.{needs}
-use Rattle.majority.specs.Rules.{majorityForm}
+use Rattle.rules.specs.Rules.{majorityForm}
 use Rattle.rules.proofs.forms.majority_form.Statement.{statement}
 use Rattle.rules.proofs.forms.majority_form.Tie as tie
 

@@ -1,6 +1,6 @@
 -- `forms::outward_form` meets its contract.
 use borrow.Author.Needs.{needs}
-use Rattle.majority.specs.Rules.{outwardForm}
+use Rattle.rules.specs.Rules.{outwardForm}
 use Rattle.rules.proofs.forms.outward_form.Statement.{statement}
 use Rattle.rules.proofs.forms.outward_form.Tie as tie
 

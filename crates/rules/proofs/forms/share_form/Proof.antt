@@ -1,6 +1,6 @@
 -- `forms::share_form` meets its contract.
 use borrow.Author.Needs.{needs}
-use Rattle.majority.specs.Rules.{shareForm}
+use Rattle.rules.specs.Rules.{shareForm}
 use Rattle.rules.proofs.forms.share_form.Statement.{statement}
 use Rattle.rules.proofs.forms.share_form.Tie as tie
 

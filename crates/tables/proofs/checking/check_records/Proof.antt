@@ -2,15 +2,15 @@
 use borrow.Author.Needs.{needs}
 use mathlib.Core.Path.{sym, ap, _∙_}
 use mathlib.Core.List.{List}
-use Rattle.majority.specs.Check.{Reply}
+use Rattle.refusals.specs.Reply.{Reply}
 use Rattle.majority.specs.declared.Record.{Record}
 use Rattle.majority.specs.declared.Counts.{Counts}
 use Rattle.tables.specs.declared.checking.Claim.{Claim}
 use Rattle.tables.specs.Bytes.{tableOf}
 use Rattle.tables.specs.Said.{saidCheck}
 use Rattle.tables.specs.Claimed.{checkCounted}
-use Rattle.tables.specs.Under.{claimedOf, checkUnder}
-use Rattle.tables.proofs.After.{then-accepted, then-refused}
+use Rattle.tables.specs.inner.Under.{claimedOf, checkUnder}
+use Rattle.tables.proofs.AfterCheck.{then-accepted, then-refused}
 use Rattle.tables.proofs.checking.check_records.Statement.{statement}
 use Rattle.tables.proofs.checking.check_records.Tie as tie
 

@@ -7,7 +7,7 @@ use mathlib.Core.Bool.{not}
 use lib.Dec.{eqb}
 use lib.ListN.{length}
 use Rattle.majority.proofs.Logic.{neither}
-use Rattle.tables.specs.Under.{checkUsed}
+use Rattle.tables.specs.inner.Under.{checkUsed}
 use Rattle.tables.proofs.checking.check_used.Statement.{statement}
 use Rattle.tables.proofs.checking.check_used.Tie as tie
 

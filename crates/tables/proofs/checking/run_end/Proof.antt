@@ -5,7 +5,7 @@ use mathlib.Core.Path.{_≡_, sym, ap, _∙_}
 use borrow.Author.Tests.{eq-eqb, ne-eqb}
 use mathlib.Core.Bool.{true, false, not}
 use Rattle.tables.specs.Bytes.{tableOf}
-use Rattle.tables.specs.Runs.{otherKind, runEnd}
+use Rattle.tables.specs.inner.Runs.{otherKind, runEnd}
 use Rattle.majority.specs.declared.Record.{Record}
 use Rattle.majority.proofs.Seek.{Seeking, seek-stop, seek-next, seek-end}
 use Rattle.tables.proofs.Decoded.{table-at}

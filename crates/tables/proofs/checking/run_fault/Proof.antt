@@ -11,7 +11,7 @@ use types.Run.{OneOf}
 use denote.Enum.Declared.{tagOf}
 use Rattle.majority.specs.Seek.{firstFrom}
 use Rattle.majority.specs.Check.{faultOf}
-use Rattle.tables.specs.Runs.{faultyAs}
+use Rattle.tables.specs.inner.Runs.{faultyAs}
 use Rattle.tables.specs.Said.{faultNumber}
 use Rattle.tables.specs.declared.checking.Fault.{Fault}
 use Rattle.tables.specs.declared.checking.Fault.the-variants.{Nothing, NotZero, Edge}

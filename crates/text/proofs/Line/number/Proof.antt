@@ -3,7 +3,7 @@ use mathlib.Core.Path.{_∙_, ap}
 use mathlib.Core.List.{List}
 use Prim.Native.Nat.{ℕ}
 use Rattle.text.specs.Shown.{withWord}
-use Rattle.text.proofs.Numbering.{in-decimal}
+use Rattle.text.proofs.DigitCount.{in-decimal}
 use borrow.Author.Needs.{needs}
 use Rattle.text.proofs.Line.number.Statement.{statement}
 use Rattle.text.proofs.Line.number.Tie as tie

@@ -1,2 +1,0 @@
-mod Every
-pub mod PatternTable

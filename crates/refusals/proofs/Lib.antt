@@ -1,0 +1,1 @@
+pub mod SaidOnce  -- no two refusals have the same numbers

@@ -1,0 +1,58 @@
+// Why a call is refused.
+ghost use mathlib.Core.Path.{_≡_};
+ghost use Rattle.refusals.specs.Why.{refusalNumber, refusalRecord};
+
+// The refusals, in the order of their numbers. What one holds is the number of a record, counted from 0.
+pub enum Refusal {
+    Length,
+    Kind(usize),
+    Count,
+    NotZero(usize),
+    Edge(usize),
+    Assignment,
+    Rule,
+    Field,
+    Form,
+    Gates,
+    Room,
+    Script,
+}
+
+pub fn refusal_number(refusal: Refusal) -> u32
+    ensures { λ r. ⌜ r ≡ refusalNumber refusal ⌝ }
+{
+    match refusal {
+        Refusal::Length => 1,
+        Refusal::Kind(_) => 2,
+        Refusal::Count => 3,
+        Refusal::NotZero(_) => 4,
+        Refusal::Edge(_) => 5,
+        Refusal::Assignment => 6,
+        Refusal::Rule => 7,
+        Refusal::Field => 8,
+        Refusal::Form => 9,
+        Refusal::Gates => 10,
+        Refusal::Room => 11,
+        Refusal::Script => 12,
+    }
+}
+
+// The record that a refusal carries, 0 where it carries none.
+pub fn refusal_record(refusal: Refusal) -> usize
+    ensures { λ r. ⌜ r ≡ refusalRecord refusal ⌝ }
+{
+    match refusal {
+        Refusal::Length => 0,
+        Refusal::Kind(i) => i,
+        Refusal::Count => 0,
+        Refusal::NotZero(i) => i,
+        Refusal::Edge(i) => i,
+        Refusal::Assignment => 0,
+        Refusal::Rule => 0,
+        Refusal::Field => 0,
+        Refusal::Form => 0,
+        Refusal::Gates => 0,
+        Refusal::Room => 0,
+        Refusal::Script => 0,
+    }
+}

@@ -1,0 +1,141 @@
+-- `changing::edit` meets its contract: each arm is the rule of one case.
+use borrow.Author.Needs.{needs}
+use mathlib.Core.Bool.{true≢false}
+use Rattle.rules.specs.Step.{hasForm, rewritten}
+use Rattle.rules.proofs.AcceptedStep.{share-field}
+use Rattle.rewriting.proofs.Gate.{fit-gate}
+use Rattle.rewriting.proofs.changing.edit.Statement.{statement}
+use Rattle.rewriting.proofs.changing.edit.Tie as tie
+
+enum-told : tie.Need-enum-told
+enum-told c = search needs
+
+exchange-requires : tie.Need-exchange-requires
+exchange-requires c κs = fit-gate (c .before .before .before .before .pre .0) (c .before .before .before .before .pre .1)
+
+enum-told-2 : tie.Need-enum-told-2
+enum-told-2 c = search needs
+
+majority-rule-requires : tie.Need-majority-rule-requires
+majority-rule-requires c κs = fit-gate (c .before .before .before .before .pre .0) (c .before .before .before .before .pre .1)
+
+enum-told-3 : tie.Need-enum-told-3
+enum-told-3 c = search needs
+
+associativity-requires : tie.Need-associativity-requires
+associativity-requires c κs = (fit-gate (c .before .before .before .before .pre .0) (c .before .before .before .before .pre .1), rw (c .before .enum-told3 .given .1) at (c .before .before .before .before .pre .0 .room))
+
+enum-told-4 : tie.Need-enum-told-4
+enum-told-4 c = search needs
+
+outward-requires : tie.Need-outward-requires
+unfolding hasForm
+outward-requires c κs = (fit-gate (c .before .before .before .before .pre .0) (c .before .before .before .before .pre .1), rw (c .before .enum-told4 .given .1) at (c .before .before .before .before .pre .0 .room), rw (c .before .enum-told4 .given .1) at (c .before .before .before .before .pre .0 .form))
+
+enum-told-5 : tie.Need-enum-told-5
+enum-told-5 c = search needs
+
+inward-requires : tie.Need-inward-requires
+inward-requires c κs = (fit-gate (c .before .before .before .before .pre .0) (c .before .before .before .before .pre .1), rw (c .before .enum-told5 .given .1) at (c .before .before .before .before .pre .0 .room))
+
+enum-told-6 : tie.Need-enum-told-6
+enum-told-6 c = search needs
+
+inversion-requires : tie.Need-inversion-requires
+inversion-requires c κs = fit-gate (c .before .before .before .before .pre .0) (c .before .before .before .before .pre .1)
+
+enum-told-7 : tie.Need-enum-told-7
+enum-told-7 c = search needs
+
+share-requires : tie.Need-share-requires
+share-requires c κs = (fit-gate (c .before .before .before .before .pre .0) (c .before .before .before .before .pre .1), share-field _ _ _ _ _ (rw (c .before .enum-told7 .given .1) at (c .before .before .before .before .pre .0 .fields)) .1)
+
+enum-told-8 : tie.Need-enum-told-8
+enum-told-8 c = search needs
+
+same-length : tie.Need-same-length
+same-length c = search needs
+
+returns : tie.Need-returns
+unfolding rewritten
+returns c = rw (c .before .before .before .before .enum-told .given .1) (c .before .before .exchange .ensures)
+
+same-length-2 : tie.Need-same-length-2
+same-length-2 c = search needs
+
+returns-2 : tie.Need-returns-2
+unfolding rewritten
+returns-2 c = rw (c .before .before .before .before .enum-told2 .given .1) (c .before .before .majority-rule .ensures)
+
+same-length-3 : tie.Need-same-length-3
+same-length-3 c = search needs
+
+returns-3 : tie.Need-returns-3
+unfolding rewritten
+returns-3 c = rw (c .before .before .before .before .enum-told3 .given .1) (c .before .before .associativity .ensures)
+
+same-length-4 : tie.Need-same-length-4
+same-length-4 c = search needs
+
+returns-4 : tie.Need-returns-4
+unfolding rewritten
+returns-4 c = rw (c .before .before .before .before .enum-told4 .given .1) (c .before .before .outward .ensures)
+
+same-length-5 : tie.Need-same-length-5
+same-length-5 c = search needs
+
+returns-5 : tie.Need-returns-5
+unfolding rewritten
+returns-5 c = rw (c .before .before .before .before .enum-told5 .given .1) (c .before .before .inward .ensures)
+
+same-length-6 : tie.Need-same-length-6
+same-length-6 c = search needs
+
+returns-6 : tie.Need-returns-6
+unfolding rewritten
+returns-6 c = rw (c .before .before .before .before .enum-told6 .given .1) (c .before .before .inversion .ensures)
+
+same-length-7 : tie.Need-same-length-7
+same-length-7 c = search needs
+
+returns-7 : tie.Need-returns-7
+unfolding rewritten
+returns-7 c = rw (c .before .before .before .before .enum-told7 .given .1) (c .before .before .share .ensures)
+
+returns-8 : tie.Need-returns-8
+returns-8 c = absurd (true≢false (rw (c .enum-told8 .given .1) at (c .before .before .before .pre .1)))
+
+pub edit-spec : {M : Type 1} → statement M
+edit-spec =
+    tie.close
+    (tie.spec
+    enum-told
+    exchange-requires
+    enum-told-2
+    majority-rule-requires
+    enum-told-3
+    associativity-requires
+    enum-told-4
+    outward-requires
+    enum-told-5
+    inward-requires
+    enum-told-6
+    inversion-requires
+    enum-told-7
+    share-requires
+    enum-told-8
+    same-length
+    returns
+    same-length-2
+    returns-2
+    same-length-3
+    returns-3
+    same-length-4
+    returns-4
+    same-length-5
+    returns-5
+    same-length-6
+    returns-6
+    same-length-7
+    returns-7
+    returns-8)

@@ -1,0 +1,137 @@
+// The rules' edits of a table that was checked: each leaves its rule's table in the slice, and the rest as it was.
+use crate::nodes::named_record;
+use crate::nodes::node_record;
+use crate::nodes::place;
+use editing::insert;
+use editing::redirect;
+use majority::Counts;
+use majority::flipped;
+use rules::Rule;
+use rules::associativity_gate;
+use rules::associativity_new;
+use rules::exchanged;
+use rules::inverted_gate;
+use rules::inward_gate;
+use rules::inward_new;
+use rules::majority_edge;
+use rules::outward_first;
+use rules::outward_gate;
+use rules::outward_second;
+use tables::put_record;
+ghost use mathlib.Core.Path.{_≡_};
+ghost use mathlib.Core.Bool.{true, false};
+ghost use Prim.Native.Nat.{_+_, _≤_, _<_};
+ghost use Rattle.majority.specs.Edit.{nodeRecord};
+ghost use Rattle.rules.specs.Rules.{plain as plainEdge, exchange as exchangeRule, majorityRule, associativity as associativityRule, outwardForm, outward as outwardRule, inward as inwardRule, inversion as inversionRule, share as shareRule};
+ghost use Rattle.rules.specs.Step.{isSweep, rewritten};
+ghost use Rattle.tables.specs.Sound.{tableIn};
+ghost use Rattle.tables.specs.Bytes.{holding};
+ghost use Rattle.rewriting.specs.inner.Fitting.{AtGate, Room, Fitting};
+
+// How many records a table has.
+fn records(counts: Counts) -> usize
+    requires { ⌜ counts .inputs + counts .gates + counts .outputs ≤ 1088 ⌝ }
+    ensures { λ r. ⌜ r ≡ counts .inputs + counts .gates + counts .outputs ⌝ }
+{
+    counts.inputs + counts.gates + counts.outputs
+}
+
+// The uninverted edge to a node.
+fn plain(k: u16) -> u16
+    requires { ⌜ k ≤ 1057 ⌝ }
+    ensures { λ r. ⌜ r ≡ plainEdge k ⌝ }
+{
+    2 * k
+}
+
+fn exchange(s: &mut [u8], counts: Counts, gate: u16, a: u16)
+    requires { ⌜ AtGate (now s) counts gate ⌝ }
+    ensures { λ _. ⌜ now (s .exit) ≡ holding (exchangeRule a gate (tableIn (now (s .entry)) counts)) (now (s .entry)) ⌝ }
+{
+    let r = node_record(s, gate);
+    put_record(s, place(gate), exchanged(a, r));
+}
+
+fn majority_rule(s: &mut [u8], counts: Counts, gate: u16)
+    requires { ⌜ AtGate (now s) counts gate ⌝ }
+    ensures { λ _. ⌜ now (s .exit) ≡ holding (majorityRule gate (tableIn (now (s .entry)) counts)) (now (s .entry)) ⌝ }
+{
+    let r = node_record(s, gate);
+    redirect(s, gate as usize, records(counts), gate, majority_edge(r));
+}
+
+fn associativity(s: &mut [u8], counts: Counts, gate: u16)
+    requires { ⌜ AtGate (now s) counts gate × Room 1 (now s) counts ⌝ }
+    ensures { λ _. ⌜ now (s .exit) ≡ holding (associativityRule gate (tableIn (now (s .entry)) counts)) (now (s .entry)) ⌝ }
+{
+    let r = node_record(s, gate);
+    let h = named_record(s, r.e3);
+    insert(s, records(counts), gate, associativity_new(r, h));
+    put_record(s, gate as usize, associativity_gate(r, h, plain(gate)));
+}
+
+fn outward(s: &mut [u8], counts: Counts, gate: u16)
+    requires { ⌜ AtGate (now s) counts gate × Room 2 (now s) counts × (outwardForm (counts .inputs) (nodeRecord (tableIn (now s) counts) gate) ≡ true) ⌝ }
+    ensures { λ _. ⌜ now (s .exit) ≡ holding (outwardRule gate (tableIn (now (s .entry)) counts)) (now (s .entry)) ⌝ }
+{
+    let r = node_record(s, gate);
+    let h = named_record(s, r.e3);
+    let n = records(counts);
+    insert(s, n, gate, outward_first(r, h));
+    insert(s, n + 1, gate + 1, outward_second(r, h));
+    put_record(
+        s,
+        gate as usize + 1,
+        outward_gate(plain(gate), plain(gate + 1), h),
+    );
+}
+
+fn inward(s: &mut [u8], counts: Counts, gate: u16)
+    requires { ⌜ AtGate (now s) counts gate × Room 1 (now s) counts ⌝ }
+    ensures { λ _. ⌜ now (s .exit) ≡ holding (inwardRule gate (tableIn (now (s .entry)) counts)) (now (s .entry)) ⌝ }
+{
+    let r = node_record(s, gate);
+    let p = named_record(s, r.e1);
+    let q = named_record(s, r.e2);
+    insert(s, records(counts), gate, inward_new(r, p, q));
+    put_record(s, gate as usize, inward_gate(p, plain(gate)));
+}
+
+fn inversion(s: &mut [u8], counts: Counts, gate: u16)
+    requires { ⌜ AtGate (now s) counts gate ⌝ }
+    ensures { λ _. ⌜ now (s .exit) ≡ holding (inversionRule gate (tableIn (now (s .entry)) counts)) (now (s .entry)) ⌝ }
+{
+    let r = node_record(s, gate);
+    redirect(
+        s,
+        gate as usize,
+        records(counts),
+        gate,
+        flipped(plain(gate)),
+    );
+    put_record(s, place(gate), inverted_gate(r));
+}
+
+fn share(s: &mut [u8], counts: Counts, gate: u16, a: u16)
+    requires { ⌜ AtGate (now s) counts gate × (a < gate) ⌝ }
+    ensures { λ _. ⌜ now (s .exit) ≡ holding (shareRule a gate (tableIn (now (s .entry)) counts)) (now (s .entry)) ⌝ }
+{
+    redirect(s, gate as usize, records(counts), gate, plain(a));
+}
+
+// Edits by a rule that fits, other than sweep.
+pub(crate) fn edit(s: &mut [u8], counts: Counts, rule: Rule, gate: u16, a: u16, b: u16)
+    requires { ⌜ Fitting (now s) counts rule gate a b × (isSweep rule ≡ false) ⌝ }
+    ensures { λ _. ⌜ now (s .exit) ≡ holding (rewritten (tableIn (now (s .entry)) counts) rule gate a) (now (s .entry)) ⌝ }
+{
+    match rule {
+        Rule::Exchange => exchange(s, counts, gate, a),
+        Rule::Majority => majority_rule(s, counts, gate),
+        Rule::Associativity => associativity(s, counts, gate),
+        Rule::Outward => outward(s, counts, gate),
+        Rule::Inward => inward(s, counts, gate),
+        Rule::Inversion => inversion(s, counts, gate),
+        Rule::Share => share(s, counts, gate, a),
+        Rule::Sweep => {}
+    }
+}

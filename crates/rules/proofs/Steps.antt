@@ -1,0 +1,108 @@
+-- What an accepted step keeps, whatever its rule, and that its table stays within the gates' limit and the buffer.
+use Prim.Native.Nat.{ℕ, _+_, _*_, _≤_}
+use mathlib.Core.Path.{_≡_, refl}
+use mathlib.Core.Bool.{Bool, true, false}
+use mathlib.Core.List.{List}
+use native.Mathlib.Omega.{arith}
+use native.Mathlib.Nat.{add-zero}
+use lib.ListN.{length}
+use Rattle.refusals.specs.Reply.{accepted}
+use Rattle.majority.specs.If.{if_then_else_}
+use Rattle.majority.specs.Table.{WellFormed}
+use Rattle.majority.specs.Check.{count}
+use Rattle.majority.specs.declared.Record.{Record}
+use Rattle.majority.proofs.Order.{order-counts}
+use Rattle.majority.proofs.Accepted.{Accepted, order-of}
+use Rattle.rules.specs.Kept.{movesOf, movesBy, NodesKept, Kept}
+use Rattle.rules.specs.Step.{isSweep, fieldsFit, hasForm, inserted, rewritten, step, deepens, deepensBy}
+use Rattle.rules.specs.declared.Step.{Step}
+use Rattle.rules.specs.declared.Rule.{Rule}
+use Rattle.rules.specs.declared.Rule.the-variants.{Exchange, Majority, Associativity, Outward, Inward, Inversion, Share, Sweep}
+use Rattle.rules.proofs.KeptByNodes.{kept-by-nodes}
+use Rattle.rules.proofs.GateNodes.{GateOf}
+use Rattle.rules.proofs.Exchange.{exchange-kept}
+use Rattle.rules.proofs.MajorityShare.{majority-kept, share-kept}
+use Rattle.rules.proofs.Associativity.{associativity-kept}
+use Rattle.rules.proofs.Outward.{outward-kept}
+use Rattle.rules.proofs.Inward.{inward-kept}
+use Rattle.rules.proofs.Inversion.{inversion-kept}
+use Rattle.rules.proofs.Sweep.{left, left-fewer, sweep-kept}
+use Rattle.rules.proofs.AcceptedStep.{Taken, Ruled, ruled, gate-field, share-field}
+
+-- how many gates a step of this rule leaves, of m
+abbrev pub gatesAfter : ℕ → ℕ → List Record → Rule → ℕ
+gatesAfter n m rs rule = if isSweep rule then left n m rs else m + inserted rule
+
+module _ {n m o : ℕ} {rs : List Record} (formed : WellFormed n m o rs) (g a b : ℕ) where
+  gate-of : (rule : Rule) → isSweep rule ≡ false → fieldsFit n m rule g a b ≡ true → GateOf n m o g rs
+  gate-of rule other fields = let w = gate-field n m g a b rule other fields in record { formed = formed; from = w .0; upto = w .1 }
+
+  -- the eight rules, one after another
+  by-rule : (rule : Rule) → fieldsFit n m rule g a b ≡ true → hasForm n rs rule g a ≡ true
+      → NodesKept (deepens rule) n m (gatesAfter n m rs rule) o (movesOf rs rule g) rs (rewritten rs rule g a)
+  unfolding hasForm rewritten
+  by-rule Exchange fields form = rw (add-zero m) (exchange-kept (gate-of Exchange refl fields) a)
+  by-rule Majority fields form = rw (add-zero m) (majority-kept (gate-of Majority refl fields) form)
+  by-rule Associativity fields form = associativity-kept (gate-of Associativity refl fields) form
+  by-rule Outward fields form = outward-kept (gate-of Outward refl fields) form
+  by-rule Inward fields form = inward-kept (gate-of Inward refl fields) form
+  by-rule Inversion fields form = rw (add-zero m) (inversion-kept (gate-of Inversion refl fields))
+  by-rule Share fields form =
+      let w = share-field n m g a b fields in
+      rw (add-zero m) (share-kept (gate-of Share refl fields) a (w .0) (w .1) form)
+  by-rule Sweep fields form = sweep-kept formed
+
+few-gates : {n m o : ℕ} {rs : List Record} → WellFormed n m o rs → (rule : Rule) → gatesAfter n m rs rule ≤ m + inserted rule
+few-gates {n} {m} {rs = rs} formed rule = go (isSweep rule)
+  where
+    go : (t : Bool) → (if t then left n m rs else m + inserted rule) ≤ m + inserted rule
+    go true = omega (arith, left-fewer formed)
+    go false = omega arith
+
+-- the counts of a well-formed table
+gates-counted : {n m o : ℕ} {rs : List Record} → WellFormed n m o rs → count 2 rs ≡ m
+gates-counted {n} {m} {o} {rs} formed = order-counts rs n m o (formed .whole) (order-of n m o rs formed) .1
+
+-- of a known rule
+module _ {n m o : ℕ} {rs : List Record} (formed : WellFormed n m o rs) {bytes : ℕ} {rule : Rule} {g a b : ℕ} {rs′ : List Record} (taken : Taken bytes n m rs rule g a b rs′) where
+  outcome : NodesKept (deepens rule) n m (gatesAfter n m rs rule) o (movesOf rs rule g) rs rs′
+  outcome = rw (taken .result) (by-rule formed g a b rule (taken .fields) (taken .form))
+
+  pub taken-count : count 2 rs′ ≡ gatesAfter n m rs rule
+  taken-count = gates-counted (outcome .formed)
+
+  pub taken-nodes : NodesKept (deepens rule) n m (count 2 rs′) o (movesOf rs rule g) rs rs′
+  taken-nodes = rw taken-count outcome
+
+  taken-gates : count 2 rs′ ≤ 1024
+  taken-gates = omega (arith, taken-count, few-gates formed rule, taken .few)
+
+  taken-fits : 8 * length rs′ ≤ bytes
+  taken-fits = omega (arith, outcome .formed .whole, formed .whole, few-gates formed rule, taken .room)
+
+module _ {n m o : ℕ} {rs : List Record} (formed : WellFormed n m o rs) (bytes : ℕ) (s : Step) (rs′ : List Record) (e : step bytes n m rs s ≡ accepted rs′) where
+  by : Ruled bytes n m rs s rs′
+  by = ruled bytes n m rs s rs′ e
+
+  -- at the nodes, and so at the outputs
+  pub step-nodes : NodesKept (deepensBy s) n m (count 2 rs′) o (movesBy rs s) rs rs′
+  step-nodes = rw (by .known) (taken-nodes formed (by .taken))
+
+  pub step-kept : Kept (deepensBy s) n m (count 2 rs′) o rs rs′
+  step-kept = kept-by-nodes formed step-nodes
+
+  pub step-gates : count 2 rs′ ≤ 1024
+  step-gates = taken-gates formed (by .taken)
+
+  pub step-fits : 8 * length rs′ ≤ bytes
+  step-fits = taken-fits formed (by .taken)
+
+-- the table that a step makes of an accepted one is accepted
+pub step-accepted : {n m o : ℕ} {rs : List Record} → Accepted n m o rs → (bytes : ℕ) (s : Step) (rs′ : List Record) → step bytes n m rs s ≡ accepted rs′
+    → Accepted n (count 2 rs′) o rs′
+step-accepted was bytes s rs′ e =
+    let limits = was .limits in
+    record {
+      formed = step-kept (was .formed) bytes s rs′ e .formed;
+      limits = record { inputs = limits .inputs; gates = step-gates (was .formed) bytes s rs′ e; some = limits .some; outputs = limits .outputs };
+    }

@@ -1,0 +1,108 @@
+-- A gate's translation: helpers for its edges, in order, then its operation, whose operands serve the edges.
+use Prim.Native.Nat.{ℕ, suc, _+_, _≤_, _<_}
+use mathlib.Core.Path.{_≡_, refl}
+use mathlib.Core.Bool.{Bool, true, false}
+use mathlib.Core.List.{List, [], _∷_}
+use native.Mathlib.Omega.{arith}
+use lib.Dec.{eqb}
+use lib.ListN.{length, getD}
+use Rattle.majority.specs.If.{if_then_else_}
+use Rattle.majority.specs.Table.{blank, recordAt, Below}
+use Rattle.translation.specs.Rm3.{operation}
+use Rattle.translation.specs.Translate.{Placed, classOf, middle, place, inOrder, gate3}
+use Rattle.majority.specs.declared.Record.{Record}
+use Rattle.translation.proofs.Begins.{Begins, All, begins-then, begins-append, begins-last, all-more, length-more}
+use Rattle.translation.proofs.Rm3Worth.{Lower}
+use Rattle.translation.proofs.Rm3Place.{Serves, Origin, a-gate, Known, known-more, Placement, place-begins, placement}
+
+-- the middle place of a gate
+abbrev pub middleOf : Record → ℕ
+middleOf r = middle (classOf (r .e1)) (classOf (r .e2)) (classOf (r .e3))
+
+-- in the table ts, operand x is the operation of the gate r
+pub record Made (operands : List ℕ) (ts : List Record) (r : Record) (x : ℕ) : Type 0 where
+  pub at : ℕ
+  pub numbered : x ≡ at + 2
+  pub inside : at < length ts
+  pub operand1 : ℕ
+  pub operand2 : ℕ
+  pub operand3 : ℕ
+  pub first : Serves operands ts (eqb (middleOf r) 1) (r .e1) operand1
+  pub second : Serves operands ts (eqb (middleOf r) 2) (r .e2) operand2
+  pub third : Serves operands ts (eqb (middleOf r) 3) (r .e3) operand3
+  pub is : recordAt ts at ≡ inOrder (middleOf r) operand1 operand2 operand3
+
+-- whichever place is the middle, an operation reads the three operands
+in-order-lower : (mid b x y z : ℕ) → x < b → y < b → z < b → (inOrder mid x y z .kind ≡ 4) × Lower b (inOrder mid x y z)
+in-order-lower mid b x y z p q s = go (eqb mid 1) (eqb mid 2)
+  where
+    go : (t u : Bool) → ((if t then operation y x z else if u then operation x y z else operation x z y) .kind ≡ 4)
+        × Lower b (if t then operation y x z else if u then operation x y z else operation x z y)
+    go true u = (refl, record { first = q; second = p; third = s })
+    go false true = (refl, record { first = p; second = q; third = s })
+    go false false = (refl, record { first = p; second = s; third = q })
+
+module _ (operands : List ℕ) (r : Record) (ts : List Record) where
+  abbrev p : Placed
+  p = place (eqb (middleOf r) 1) operands (r .e1) ts
+
+  abbrev q : Placed
+  q = place (eqb (middleOf r) 2) operands (r .e2) (p .table)
+
+  abbrev s : Placed
+  s = place (eqb (middleOf r) 3) operands (r .e3) (q .table)
+
+  abbrev made : Record
+  made = inOrder (middleOf r) (p .operand) (q .operand) (s .operand)
+
+  pub gate-begins : Begins blank ts (gate3 operands r ts)
+  unfolding gate3
+  gate-begins =
+      begins-then (begins-then (place-begins operands (r .e1) ts _) (place-begins operands (r .e2) (p .table) _))
+      (begins-then (place-begins operands (r .e3) (q .table) _) (begins-append (s .table) (made ∷ [])))
+
+module _ {n : ℕ} {final operands : List ℕ} {ts : List Record} (r : Record) (known : Known final operands ts) (late : n ≤ length ts) (reads : Below (length operands) r) where
+  placed1 : Placement n final (eqb (middleOf r) 1) (r .e1) ts (p operands r ts)
+  placed1 = placement _ (r .e1) known late (reads .first)
+
+  placed2 : Placement n final (eqb (middleOf r) 2) (r .e2) (p operands r ts .table) (q operands r ts)
+  placed2 = placement _ (r .e2) (known-more (placed1 .begins) known) (omega (arith, placed1 .begins .longer)) (reads .second)
+
+  both : Begins blank ts (q operands r ts .table)
+  both = begins-then (placed1 .begins) (placed2 .begins)
+
+  placed3 : Placement n final (eqb (middleOf r) 3) (r .e3) (q operands r ts .table) (s operands r ts)
+  placed3 = placement _ (r .e3) (known-more both known) (omega (arith, both .longer)) (reads .third)
+
+  whole-length : length (gate3 operands r ts) ≡ suc (length (s operands r ts .table))
+  unfolding gate3
+  whole-length = length-more (s operands r ts .table) (made operands r ts)
+
+  reads-lower : (made operands r ts .kind ≡ 4) × Lower (length (s operands r ts .table) + 2) (made operands r ts)
+  reads-lower =
+      in-order-lower (middleOf r) _ _ _ _ (omega (arith, placed1 .low, placed2 .begins .longer, placed3 .begins .longer)) (omega (arith, placed2 .low, placed3 .begins .longer)) (placed3 .low)
+
+  -- its helpers are its edges' nodes', and its operation is that of the next node
+  pub gate-origins : length operands < length final → getD final (length operands) 0 ≡ length (gate3 operands r ts) + 1
+      → All blank (Origin n final) ts → All blank (Origin n final) (gate3 operands r ts)
+  unfolding gate3
+  gate-origins upto is all =
+      all-more (made operands r ts) (placed3 .origins (placed2 .origins (placed1 .origins all)))
+      (a-gate (omega (arith, both .longer, placed3 .begins .longer)) (length operands) upto (omega (arith, whole-length)) (reads-lower .0) (reads-lower .1))
+
+  pub gate-made : (whole : List Record) → Begins blank (gate3 operands r ts) whole → Made final whole r (length (gate3 operands r ts) + 1)
+  unfolding gate3
+  gate-made whole b =
+      let done = begins-then (begins-append (s operands r ts .table) (made operands r ts ∷ [])) b in
+      record {
+        at = length (s operands r ts .table);
+        numbered = omega (arith, whole-length);
+        inside = omega (arith, whole-length, b .longer);
+        operand1 = p operands r ts .operand;
+        operand2 = q operands r ts .operand;
+        operand3 = s operands r ts .operand;
+        first = placed1 .serves whole (begins-then (begins-then (placed2 .begins) (placed3 .begins)) done);
+        second = placed2 .serves whole (begins-then (placed3 .begins) done);
+        third = placed3 .serves whole done;
+        is = begins-last (s operands r ts .table) (made operands r ts) b;
+      }

@@ -1,0 +1,97 @@
+-- The operand that an edge gets, and what it leaves in the RM3 table: each record's origin, and how an operand serves its edge.
+use Prim.Native.Nat.{ℕ, _+_, _-_, _≤_, _<_}
+use mathlib.Core.Path.{_≡_, refl, _∙_}
+use mathlib.Core.Bool.{Bool, true, false, not}
+use mathlib.Core.List.{List, [], _∷_, _++_}
+use native.Mathlib.Omega.{arith}
+use native.Mathlib.Decide.{ℕ-discrete}
+use borrow.Author.Tests.{eq-eqb, ne-eqb}
+use lib.ListN.{length, getD}
+use Rattle.majority.specs.If.{if_then_else_}
+use Rattle.majority.specs.Edge.{nodeOf, isInverted}
+use Rattle.majority.specs.Table.{blank, input, recordAt}
+use Rattle.translation.specs.Rm3.{operation}
+use Rattle.translation.specs.Translate.{Placed, classOf, place}
+use Rattle.majority.specs.declared.Record.{Record}
+use Rattle.translation.proofs.Begins.{Begins, All, begins-same, begins-append, begins-last, all-more, length-more}
+use Rattle.translation.proofs.Rm3Worth.{Lower}
+
+-- in the table ts an operand serves the edge e, in the middle place or another: a constant's own or opposite, that of the edge's node, or its helper's
+pub data Serves (operands : List ℕ) (ts : List Record) (isMiddle : Bool) (e : ℕ) : ℕ → Type 0 where
+  itself : nodeOf e ≡ 0 → Serves operands ts isMiddle e (if isMiddle then 1 - e else e)
+  direct : isInverted e ≡ isMiddle → Serves operands ts isMiddle e (getD operands (nodeOf e) 0)
+  helped : isInverted e ≡ not isMiddle → (i : ℕ) → i < length ts → recordAt ts i ≡ operation 0 (getD operands (nodeOf e) 0) 1 → Serves operands ts isMiddle e (i + 2)
+
+-- where record j of the inputs and operations comes from: an input, a node that has it for a helper, or the gate whose operation it is
+pub data Origin (n : ℕ) (operands : List ℕ) (j : ℕ) (r : Record) : Type 0 where
+  an-input : j < n → r ≡ input → Origin n operands j r
+  a-helper : n ≤ j → (k : ℕ) → k < length operands → getD operands k 0 < j + 2 → r ≡ operation 0 (getD operands k 0) 1 → Origin n operands j r
+  a-gate : n ≤ j → (k : ℕ) → k < length operands → getD operands k 0 ≡ j + 2 → r .kind ≡ 4 → Lower (j + 2) r → Origin n operands j r
+
+-- the first of the nodes' final operands are known, and stand in the table so far
+pub record Known (final operands : List ℕ) (ts : List Record) : Type 0 where
+  pub begins : Begins 0 operands final
+  pub low : (k : ℕ) → k < length operands → getD final k 0 < length ts + 2
+
+pub known-more : {final operands : List ℕ} {ts ts′ : List Record} → Begins blank ts ts′ → Known final operands ts → Known final operands ts′
+known-more b known = record { begins = known .begins; low = λ k h. omega (arith, known .low k h, b .longer) }
+
+module _ (operands : List ℕ) (e : ℕ) (ts : List Record) where
+  -- the three ways in which an edge gets its operand
+  data Way (isMiddle : Bool) : Placed → Type 0 where
+    itself : nodeOf e ≡ 0 → Way isMiddle (record { operand = if isMiddle then 1 - e else e; table = ts })
+    direct : isInverted e ≡ isMiddle → Way isMiddle (record { operand = getD operands (nodeOf e) 0; table = ts })
+    helped : isInverted e ≡ not isMiddle → Way isMiddle (record { operand = length ts + 2; table = ts ++ operation 0 (getD operands (nodeOf e) 0) 1 ∷ [] })
+
+  way : (isMiddle : Bool) → Way isMiddle (place isMiddle operands e ts)
+  unfolding place classOf
+  way isMiddle = go (ℕ-discrete (nodeOf e) 0)
+    where
+      by-inversion : (m t : Bool) → isInverted e ≡ t → (nodeOf e ≡ 0 → ⊥) → Way m (place m operands e ts)
+      by-inversion true true p h = rw (ne-eqb (nodeOf e) 0 h, p) (direct p)
+      by-inversion true false p h = rw (ne-eqb (nodeOf e) 0 h, p) (helped p)
+      by-inversion false true p h = rw (ne-eqb (nodeOf e) 0 h, p) (helped p)
+      by-inversion false false p h = rw (ne-eqb (nodeOf e) 0 h, p) (direct p)
+
+      go : Dec (nodeOf e ≡ 0) → Way isMiddle (place isMiddle operands e ts)
+      go (yes h) = rw (eq-eqb (nodeOf e) 0 h) (itself h)
+      go (no h) = by-inversion isMiddle (isInverted e) refl h
+
+  pub place-begins : (isMiddle : Bool) → Begins blank ts (place isMiddle operands e ts .table)
+  place-begins isMiddle = go _ (way isMiddle)
+    where
+      go : (p : Placed) → Way isMiddle p → Begins blank ts (p .table)
+      go _ (itself h) = begins-same ts
+      go _ (direct h) = begins-same ts
+      go _ (helped h) = begins-append ts _
+
+-- what is known of an edge's operand and of the table with the helper that it may need
+pub record Placement (n : ℕ) (final : List ℕ) (isMiddle : Bool) (e : ℕ) (ts : List Record) (p : Placed) : Type 0 where
+  pub begins : Begins blank ts (p .table)
+  pub low : p .operand < length (p .table) + 2
+  pub origins : All blank (Origin n final) ts → All blank (Origin n final) (p .table)
+  pub serves : (whole : List Record) → Begins blank (p .table) whole → Serves final whole isMiddle e (p .operand)
+
+pub placement : {n : ℕ} {final operands : List ℕ} {ts : List Record} (isMiddle : Bool) (e : ℕ) → Known final operands ts → n ≤ length ts → nodeOf e < length operands
+    → Placement n final isMiddle e ts (place isMiddle operands e ts)
+placement {n} {final} {operands} {ts} isMiddle e known late named = go _ (way operands e ts isMiddle)
+  where
+    same : getD final (nodeOf e) 0 ≡ getD operands (nodeOf e) 0
+    same = known .begins .same (nodeOf e) named
+
+    low : getD final (nodeOf e) 0 < length ts + 2
+    low = known .low (nodeOf e) named
+
+    constant-low : (m : Bool) → nodeOf e ≡ 0 → (if m then 1 - e else e) < length ts + 2
+    constant-low true h = omega arith
+    constant-low false h = omega arith
+
+    go : (p : Placed) → Way operands e ts isMiddle p → Placement n final isMiddle e ts p
+    go _ (itself h) = record { begins = begins-same ts; low = constant-low isMiddle h; origins = λ all. all; serves = λ whole b. itself h }
+    go _ (direct h) = record { begins = begins-same ts; low = rw (← same) low; origins = λ all. all; serves = λ whole b. rw (← same) (direct h) }
+    go _ (helped h) = record {
+      begins = begins-append ts _;
+      low = omega (arith, length-more ts (operation 0 (getD operands (nodeOf e) 0) 1));
+      origins = λ all. all-more _ all (a-helper late (nodeOf e) (omega (arith, known .begins .longer)) low (rw same));
+      serves = λ whole b. helped h (length ts) (omega (arith, b .longer, length-more ts (operation 0 (getD operands (nodeOf e) 0) 1))) (begins-last ts _ b ∙ rw same);
+    }

@@ -1,0 +1,112 @@
+-- What stands in the RM3 table for each input and gate, as the translation goes from record to record.
+use Prim.Native.Nat.{ℕ, suc, _+_, _≤_, _<_}
+use mathlib.Core.Path.{_≡_, refl, sym, ap, _∙_, subst}
+use mathlib.Core.List.{List, [], _∷_, _++_}
+use native.Mathlib.Omega.{arith}
+use native.Mathlib.Decide.{decLt}
+use lib.ListN.{length, getD}
+use Rattle.majority.specs.Table.{blank, input, recordAt, Below}
+use Rattle.translation.specs.Translate.{after, gate3, nodes3}
+use Rattle.majority.specs.declared.Record.{Record}
+use Rattle.translation.proofs.Begins.{Begins, All, begins-then, begins-append, begins-last, all-more, length-more}
+use Rattle.majority.proofs.Formed.{kind-two}
+use Rattle.translation.proofs.Rm3Place.{Origin, an-input, Known}
+use Rattle.translation.proofs.Rm3Gate.{Made, gate-begins, gate-origins, gate-made}
+use Rattle.translation.proofs.Rm3Nodes.{named, nodes-begin, nodes-induction}
+
+-- what stands for record j, of n inputs and then gates: input j is operand j + 2, and a gate is its operation
+pub record Stands (n : ℕ) (operands : List ℕ) (ts : List Record) (j : ℕ) (r : Record) : Type 0 where
+  pub an-input : j < n → getD operands (suc j) 0 ≡ j + 2
+  pub a-gate : n ≤ j → Made operands ts r (getD operands (suc j) 0)
+
+-- the first j of the records rs are translated, where the operands and the table become `final` and `whole`
+pub record Translated (n : ℕ) (final : List ℕ) (whole rs : List Record) (j : ℕ) (operands : List ℕ) (ts : List Record) : Type 0 where
+  pub count : length operands ≡ suc j
+  pub low : (k : ℕ) → k < length operands → getD final k 0 < length ts + 2
+  pub inputs : j ≤ n → length ts ≡ j
+  pub late : n ≤ j → n ≤ length ts
+  pub origins : All blank (Origin n final) ts
+  pub stands : (i : ℕ) → i < j → Stands n final whole i (recordAt rs i)
+
+module _ (n : ℕ) (final : List ℕ) (whole rs : List Record)
+    (inputs : (j : ℕ) → j < n → recordAt rs j ≡ input)
+    (gates : (j : ℕ) → n ≤ j → j < length rs → (recordAt rs j .kind ≡ 2) × Below (suc j) (recordAt rs j)) where
+  -- one record more
+  more : (j : ℕ) (operands : List ℕ) (ts next : List Record) → Translated n final whole rs j operands ts → Begins blank ts next → Begins 0 (named operands next) final
+      → (suc j ≤ n → length next ≡ suc j) → (n ≤ suc j → n ≤ length next) → All blank (Origin n final) next → Stands n final whole j (recordAt rs j)
+      → Translated n final whole rs (suc j) (named operands next) next
+  more j operands ts next so b c early late all this = record {
+    count = omega (arith, length-more operands (length next + 1), so .count);
+    low = λ k h. low k h (decLt k (length operands));
+    inputs = early;
+    late = late;
+    origins = all;
+    stands = λ i h. stands i h (decLt i j);
+  }
+    where
+      low : (k : ℕ) → k < length (named operands next) → Dec (k < length operands) → getD final k 0 < length next + 2
+      low k h (yes l) = omega (arith, so .low k l, b .longer)
+      low k h (no l) =
+          let e : k ≡ length operands = omega (arith, length-more operands (length next + 1)) in
+          rw (e, begins-last operands (length next + 1) c) (omega arith)
+
+      stands : (i : ℕ) → i < suc j → Dec (i < j) → Stands n final whole i (recordAt rs i)
+      stands i h (yes l) = so .stands i l
+      stands i h (no l) = let e : i ≡ j = omega arith in rw e this
+
+  -- the operand of the next node
+  next-operand : (j : ℕ) (operands : List ℕ) (ts next : List Record) → Translated n final whole rs j operands ts → Begins 0 (named operands next) final
+      → getD final (suc j) 0 ≡ length next + 1
+  next-operand j operands ts next so c = rw (← so .count) (begins-last operands (length next + 1) c)
+
+  input-more : (j : ℕ) (operands : List ℕ) (ts : List Record) → j < n → Translated n final whole rs j operands ts
+      → let next = ts ++ input ∷ [] in Begins 0 (named operands next) final → Translated n final whole rs (suc j) (named operands next) next
+  input-more j operands ts h so c =
+      let size : length ts ≡ j = so .inputs (omega arith) in
+      let grown : length (ts ++ input ∷ []) ≡ suc j = rw (length-more ts input, size) in
+      more j operands ts (ts ++ input ∷ []) so (begins-append ts (input ∷ [])) c (λ l. grown) (λ l. omega arith)
+      (all-more input (so .origins) (an-input (omega arith) refl))
+      (record { an-input = λ l. next-operand j operands ts (ts ++ input ∷ []) so c ∙ rw grown (omega arith); a-gate = λ l. absurd (omega arith) })
+
+  gate-more : (j : ℕ) (operands : List ℕ) (ts : List Record) → n ≤ j → j < length rs → Translated n final whole rs j operands ts
+      → let next = gate3 operands (recordAt rs j) ts in
+      Begins 0 (named operands next) final → Begins blank next whole → Translated n final whole rs (suc j) (named operands next) next
+  gate-more j operands ts l h so c w =
+      let r = recordAt rs j in
+      let next = gate3 operands r ts in
+      let b = gate-begins operands r ts in
+      let known : Known final operands ts = record { begins = begins-then (begins-append operands _) c; low = so .low } in
+      let reads : Below (length operands) r = rw (so .count) (gates j l h .1) in
+      let is = next-operand j operands ts next so c in
+      let late = so .late l in
+      more j operands ts next so b c (λ q. absurd (omega arith)) (λ q. omega (arith, b .longer))
+      (gate-origins r known late reads (omega (arith, c .longer, length-more operands (length next + 1))) (rw (so .count) is) (so .origins))
+      (record { an-input = λ q. absurd (omega arith); a-gate = λ q. rw is (gate-made r known late reads whole w) })
+
+  -- record j, as `after` has it
+  abbrev Step : ℕ → List ℕ → List Record → List Record → Type 0
+  Step j operands ts next =
+      Begins 0 (named operands next) final → Begins blank next whole → Translated n final whole rs j operands ts → Translated n final whole rs (suc j) (named operands next) next
+
+  step : (j : ℕ) (operands : List ℕ) (ts : List Record) → j < length rs → Dec (j < n) → Step j operands ts (after operands ts (recordAt rs j))
+  step j operands ts h (yes l) =
+      subst (Step j operands ts) (sym (ap (after operands ts) (inputs j l)))
+      (λ c w so. input-more j operands ts l so c)
+  step j operands ts h (no l) =
+      subst (Step j operands ts) (sym (kind-two (recordAt rs j .kind) _ _ _ _ (gates j (omega arith) h .0)))
+      (λ c w so. gate-more j operands ts (omega arith) h so c w)
+
+  -- all records
+  pub nodes-translated : let done = nodes3 (0 ∷ []) [] rs in Begins 0 (done .operands) final → Begins blank (done .table) whole
+      → Translated n final whole rs (length rs) (done .operands) (done .table)
+  nodes-translated b c =
+      let first : getD final 0 0 ≡ 0 = begins-then (nodes-begin (0 ∷ []) [] rs .0) b .same 0 (omega arith) in
+      nodes-induction (Translated n final whole rs) final whole rs (λ j operands ts h. step j operands ts h (decLt j n)) (0 ∷ []) [] b c
+      (record {
+        count = refl;
+        low = λ k h. let e : k ≡ 0 = omega arith in rw (e, first) (omega arith);
+        inputs = λ h. refl;
+        late = λ h. h;
+        origins = record { each = λ i h. absurd (omega arith) };
+        stands = λ i h. absurd (omega arith);
+      })
