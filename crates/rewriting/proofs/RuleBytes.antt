@@ -133,12 +133,12 @@ module _ {xs : List ℕ} {c : Counts} {g : ℕ} (at : AtGate xs c g) where
       bytes
 
   -- it is redirected, and becomes another
-  pub redirect-then-put : {ys zs : List ℕ} (e : ℕ) (r : Record) → ys ≡ redirectedFrom xs g records g e → zs ≡ putRecord ys (g - 1) r → Bytes zs
+  pub redirect-then-put : {ys zs : List ℕ} (e : ℕ) (r : Record) → ys ≡ holding (redirectAll g e table) xs → zs ≡ putRecord ys (g - 1) r → Bytes zs
       → zs ≡ holding (become g r (redirectAll g e table)) xs
   unfolding redirectAll
   redirect-then-put e r first put bytes =
       let len = length-map table (edges (redirect g e)) in
       then-put (redirectAll g e table) g r (omega (arith, table-fits)) (omega (arith, at .from)) (omega (arith, at .upto, at-length at))
-      (rw (first ∙ redirect-holding e) (holding-holds (redirectAll g e table) xs (omega (arith, table-fits))))
+      (rw first (holding-holds (redirectAll g e table) xs (omega (arith, table-fits))))
       put
       bytes

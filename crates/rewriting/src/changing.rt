@@ -21,8 +21,8 @@ use tables::put_record;
 ghost use mathlib.Core.Path.{_≡_};
 ghost use mathlib.Core.Bool.{true, false};
 ghost use Prim.Native.Nat.{_+_, _≤_, _<_};
-ghost use Rattle.majority.specs.Edit.{nodeRecord};
-ghost use Rattle.rules.specs.Rules.{plain as plainEdge, exchange as exchangeRule, majorityRule, associativity as associativityRule, outwardForm, outward as outwardRule, inward as inwardRule, inversion as inversionRule, share as shareRule};
+ghost use Rattle.majority.specs.Edit.{nodeRecord, redirectAll};
+ghost use Rattle.rules.specs.Rules.{plain as plainEdge, exchange as exchangeRule, associativity as associativityRule, outwardForm, outward as outwardRule, inward as inwardRule, inversion as inversionRule};
 ghost use Rattle.rules.specs.Step.{isSweep, rewritten};
 ghost use Rattle.tables.specs.Sound.{tableIn};
 ghost use Rattle.tables.specs.Bytes.{holding};
@@ -52,12 +52,12 @@ fn exchange(s: &mut [u8], counts: Counts, gate: u16, a: u16)
     put_record(s, place(gate), exchanged(a, r));
 }
 
-fn majority_rule(s: &mut [u8], counts: Counts, gate: u16)
+// Redirects the gate to an edge.
+fn redirect_gate(s: &mut [u8], counts: Counts, gate: u16, edge: u16)
     requires { ⌜ AtGate (now s) counts gate ⌝ }
-    ensures { λ _. ⌜ now (s .exit) ≡ holding (majorityRule gate (tableIn (now (s .entry)) counts)) (now (s .entry)) ⌝ }
+    ensures { λ _. ⌜ now (s .exit) ≡ holding (redirectAll gate edge (tableIn (now (s .entry)) counts)) (now (s .entry)) ⌝ }
 {
-    let r = node_record(s, gate);
-    redirect(s, gate as usize, records(counts), gate, majority_edge(r));
+    redirect(s, gate as usize, records(counts), gate, edge);
 }
 
 fn associativity(s: &mut [u8], counts: Counts, gate: u16)
@@ -102,21 +102,8 @@ fn inversion(s: &mut [u8], counts: Counts, gate: u16)
     ensures { λ _. ⌜ now (s .exit) ≡ holding (inversionRule gate (tableIn (now (s .entry)) counts)) (now (s .entry)) ⌝ }
 {
     let r = node_record(s, gate);
-    redirect(
-        s,
-        gate as usize,
-        records(counts),
-        gate,
-        flipped(plain(gate)),
-    );
+    redirect_gate(s, counts, gate, flipped(plain(gate)));
     put_record(s, place(gate), inverted_gate(r));
-}
-
-fn share(s: &mut [u8], counts: Counts, gate: u16, a: u16)
-    requires { ⌜ AtGate (now s) counts gate × (a < gate) ⌝ }
-    ensures { λ _. ⌜ now (s .exit) ≡ holding (shareRule a gate (tableIn (now (s .entry)) counts)) (now (s .entry)) ⌝ }
-{
-    redirect(s, gate as usize, records(counts), gate, plain(a));
 }
 
 // Edits by a rule that fits, other than sweep.
@@ -126,12 +113,12 @@ pub(crate) fn edit(s: &mut [u8], counts: Counts, rule: Rule, gate: u16, a: u16, 
 {
     match rule {
         Rule::Exchange => exchange(s, counts, gate, a),
-        Rule::Majority => majority_rule(s, counts, gate),
+        Rule::Majority => redirect_gate(s, counts, gate, majority_edge(node_record(s, gate))),
         Rule::Associativity => associativity(s, counts, gate),
         Rule::Outward => outward(s, counts, gate),
         Rule::Inward => inward(s, counts, gate),
         Rule::Inversion => inversion(s, counts, gate),
-        Rule::Share => share(s, counts, gate, a),
+        Rule::Share => redirect_gate(s, counts, gate, plain(a)),
         Rule::Sweep => {}
     }
 }

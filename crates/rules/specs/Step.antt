@@ -14,6 +14,8 @@ use Rattle.majority.specs.declared.Record.{Record}
 use Rattle.rules.specs.declared.Step.{Step}
 use Rattle.rules.specs.declared.Rule.{Rule}
 use Rattle.rules.specs.declared.Rule.the-variants.{Exchange, Majority, Associativity, Outward, Inward, Inversion, Share, Sweep}
+use Rattle.rules.specs.declared.Asked.{Asked}
+use Rattle.rules.specs.declared.Asked.the-variants.{Zero, OneOrTwo, LowerGate}
 use Rattle.rules.specs.declared.Named.{Named}
 use Rattle.rules.specs.declared.Named.the-variants.{Known, Unknown}
 
@@ -58,20 +60,25 @@ isGate n m g = ltb n g && leb g (n + m)
 abbrev pub gateFits : ℕ → ℕ → Rule → ℕ → Bool
 gateFits n m rule g = if isSweep rule then eqb g 0 else isGate n m g
 
--- a is 1 or 2 for exchange, a gate below g for share, else 0
-abbrev pub aFits : ℕ → ℕ → Rule → ℕ → ℕ → Bool
-aFits n m Exchange g a = eqb a 1 || eqb a 2
-aFits n m Majority g a = eqb a 0
-aFits n m Associativity g a = eqb a 0
-aFits n m Outward g a = eqb a 0
-aFits n m Inward g a = eqb a 0
-aFits n m Inversion g a = eqb a 0
-aFits n m Share g a = isGate n m a && ltb a g
-aFits n m Sweep g a = eqb a 0
+-- what a rule asks of the field a: 1 or 2 for exchange, a gate below g for share, else 0
+abbrev pub askedOf : Rule → Asked
+askedOf Exchange = OneOrTwo
+askedOf Majority = Zero
+askedOf Associativity = Zero
+askedOf Outward = Zero
+askedOf Inward = Zero
+askedOf Inversion = Zero
+askedOf Share = LowerGate
+askedOf Sweep = Zero
+
+abbrev pub aFits : ℕ → ℕ → Asked → ℕ → ℕ → Bool
+aFits n m Zero g a = eqb a 0
+aFits n m OneOrTwo g a = eqb a 1 || eqb a 2
+aFits n m LowerGate g a = isGate n m a && ltb a g
 
 -- the fields are those that the rule allows; b is 0
 unfoldable pub fieldsFit : ℕ → ℕ → Rule → ℕ → ℕ → ℕ → Bool
-fieldsFit n m rule g a b = gateFits n m rule g && aFits n m rule g a && eqb b 0
+fieldsFit n m rule g a b = gateFits n m rule g && aFits n m (askedOf rule) g a && eqb b 0
 
 -- the gate has the rule's form
 unfoldable pub hasForm : ℕ → List Record → Rule → ℕ → ℕ → Bool

@@ -1,9 +1,10 @@
 // The fields that a step's rule allows.
+use crate::Asked;
 use crate::Rule;
 use crate::is_sweep;
 use majority::Counts;
 ghost use mathlib.Core.Path.{_≡_};
-ghost use Rattle.rules.specs.Step.{isGate, gateFits, aFits, fieldsFit, inserted as insertedBy};
+ghost use Rattle.rules.specs.Step.{isGate, gateFits, askedOf, aFits, fieldsFit, inserted as insertedBy};
 
 // Node k is a gate of a table with these counts.
 fn is_gate(counts: Counts, k: u16) -> bool
@@ -26,19 +27,30 @@ fn gate_fits(counts: Counts, rule: Rule, gate: u16) -> bool
     is_gate(counts, gate)
 }
 
-// The field a is 1 or 2 for exchange, a gate below the gate field for share, else 0.
-fn a_fits(counts: Counts, rule: Rule, gate: u16, a: u16) -> bool
-    ensures { λ r. ⌜ r ≡ aFits (counts .inputs) (counts .gates) rule gate a ⌝ }
+// What the rule asks of the field a.
+fn asked(rule: Rule) -> Asked
+    ensures { λ r. ⌜ r ≡ askedOf rule ⌝ }
 {
     match rule {
-        Rule::Exchange => (a == 1) | (a == 2),
-        Rule::Majority => a == 0,
-        Rule::Associativity => a == 0,
-        Rule::Outward => a == 0,
-        Rule::Inward => a == 0,
-        Rule::Inversion => a == 0,
-        Rule::Share => is_gate(counts, a) & (a < gate),
-        Rule::Sweep => a == 0,
+        Rule::Exchange => Asked::OneOrTwo,
+        Rule::Majority => Asked::Zero,
+        Rule::Associativity => Asked::Zero,
+        Rule::Outward => Asked::Zero,
+        Rule::Inward => Asked::Zero,
+        Rule::Inversion => Asked::Zero,
+        Rule::Share => Asked::LowerGate,
+        Rule::Sweep => Asked::Zero,
+    }
+}
+
+// The field a is what is asked.
+fn a_fits(counts: Counts, asked: Asked, gate: u16, a: u16) -> bool
+    ensures { λ r. ⌜ r ≡ aFits (counts .inputs) (counts .gates) asked gate a ⌝ }
+{
+    match asked {
+        Asked::Zero => a == 0,
+        Asked::OneOrTwo => (a == 1) | (a == 2),
+        Asked::LowerGate => is_gate(counts, a) & (a < gate),
     }
 }
 
@@ -46,7 +58,7 @@ fn a_fits(counts: Counts, rule: Rule, gate: u16, a: u16) -> bool
 pub fn fields_fit(counts: Counts, rule: Rule, gate: u16, a: u16, b: u16) -> bool
     ensures { λ r. ⌜ r ≡ fieldsFit (counts .inputs) (counts .gates) rule gate a b ⌝ }
 {
-    gate_fits(counts, rule, gate) & a_fits(counts, rule, gate, a) & (b == 0)
+    gate_fits(counts, rule, gate) & a_fits(counts, asked(rule), gate, a) & (b == 0)
 }
 
 // How many gates the rule inserts.

@@ -44,6 +44,13 @@ pub enum Rule {
     Sweep,
 }
 
+// What a rule may ask of the field a: to be 0, 1 or 2, or a gate below the gate field.
+pub enum Asked {
+    Zero,
+    OneOrTwo,
+    LowerGate,
+}
+
 // The rule that has a number, if any.
 pub enum Named {
     Known(Rule),

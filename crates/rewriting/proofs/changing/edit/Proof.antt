@@ -1,9 +1,12 @@
 -- `changing::edit` meets its contract: each arm is the rule of one case.
 use borrow.Author.Needs.{needs}
+use mathlib.Core.Path.{_∙_}
 use mathlib.Core.Bool.{true≢false}
+use native.Mathlib.Omega.{arith}
+use Rattle.rules.specs.Rules.{majorityRule, share}
 use Rattle.rules.specs.Step.{hasForm, rewritten}
 use Rattle.rules.proofs.AcceptedStep.{share-field}
-use Rattle.rewriting.proofs.Gate.{fit-gate}
+use Rattle.rewriting.proofs.Gate.{fit-gate, at-node, gate-at}
 use Rattle.rewriting.proofs.changing.edit.Statement.{statement}
 use Rattle.rewriting.proofs.changing.edit.Tie as tie
 
@@ -16,8 +19,14 @@ exchange-requires c κs = fit-gate (c .before .before .before .before .pre .0) (
 enum-told-2 : tie.Need-enum-told-2
 enum-told-2 c = search needs
 
-majority-rule-requires : tie.Need-majority-rule-requires
-majority-rule-requires c κs = fit-gate (c .before .before .before .before .pre .0) (c .before .before .before .before .pre .1)
+node-record-requires : tie.Need-node-record-requires
+node-record-requires c κs = search needs
+
+majority-edge-requires : tie.Need-majority-edge-requires
+majority-edge-requires c κs = search needs
+
+redirect-gate-requires : tie.Need-redirect-gate-requires
+redirect-gate-requires c κs = fit-gate (c .before .before .before .before .before .before .before .pre .0) (c .before .before .before .before .before .before .before .pre .1)
 
 enum-told-3 : tie.Need-enum-told-3
 enum-told-3 c = search needs
@@ -47,8 +56,13 @@ inversion-requires c κs = fit-gate (c .before .before .before .before .pre .0) 
 enum-told-7 : tie.Need-enum-told-7
 enum-told-7 c = search needs
 
-share-requires : tie.Need-share-requires
-share-requires c κs = (fit-gate (c .before .before .before .before .pre .0) (c .before .before .before .before .pre .1), share-field _ _ _ _ _ (rw (c .before .enum-told7 .given .1) at (c .before .before .before .before .pre .0 .fields)) .1)
+plain-requires : tie.Need-plain-requires
+plain-requires c κs = let fit = c .before .before .before .before .pre .0 in
+    let low = share-field _ _ _ _ _ (rw (c .before .enum-told7 .given .1) at (fit .fields)) .1 in
+    omega (arith, low, at-node (fit-gate fit (c .before .before .before .before .pre .1)))
+
+redirect-gate-requires-2 : tie.Need-redirect-gate-requires-2
+redirect-gate-requires-2 c κs = fit-gate (c .before .before .before .before .before .pre .0) (c .before .before .before .before .before .pre .1)
 
 enum-told-8 : tie.Need-enum-told-8
 enum-told-8 c = search needs
@@ -64,8 +78,9 @@ same-length-2 : tie.Need-same-length-2
 same-length-2 c = search needs
 
 returns-2 : tie.Need-returns-2
-unfolding rewritten
-returns-2 c = rw (c .before .before .before .before .enum-told2 .given .1) (c .before .before .majority-rule .ensures)
+unfolding rewritten majorityRule
+returns-2 c = let at = fit-gate (c .before .before .before .before .before .before .before .before .before .before .pre .0) (c .before .before .before .before .before .before .before .before .before .before .pre .1) in
+    rw (c .before .before .before .before .before .before .before .enum-told2 .given .1) (c .before .before .redirect-gate .ensures ∙ rw (c .before .before .before .majority-edge .ensures, c .before .before .before .before .node-record .ensures, gate-at at))
 
 same-length-3 : tie.Need-same-length-3
 same-length-3 c = search needs
@@ -99,8 +114,8 @@ same-length-7 : tie.Need-same-length-7
 same-length-7 c = search needs
 
 returns-7 : tie.Need-returns-7
-unfolding rewritten
-returns-7 c = rw (c .before .before .before .before .enum-told7 .given .1) (c .before .before .share .ensures)
+unfolding rewritten share
+returns-7 c = rw (c .before .before .before .before .before .enum-told7 .given .1) (c .before .before .redirect-gate2 .ensures ∙ rw (c .before .before .before .plain .ensures))
 
 returns-8 : tie.Need-returns-8
 returns-8 c = absurd (true≢false (rw (c .enum-told8 .given .1) at (c .before .before .before .pre .1)))
@@ -112,7 +127,9 @@ edit-spec =
     enum-told
     exchange-requires
     enum-told-2
-    majority-rule-requires
+    node-record-requires
+    majority-edge-requires
+    redirect-gate-requires
     enum-told-3
     associativity-requires
     enum-told-4
@@ -122,7 +139,8 @@ edit-spec =
     enum-told-6
     inversion-requires
     enum-told-7
-    share-requires
+    plain-requires
+    redirect-gate-requires-2
     enum-told-8
     same-length
     returns

@@ -3,7 +3,7 @@ use borrow.Author.Needs.{needs}
 use mathlib.Core.Path.{_∙_}
 use native.Mathlib.Omega.{arith}
 use Rattle.rules.specs.Rules.{inversion}
-use Rattle.rewriting.proofs.Gate.{at-few, at-node, gate-at}
+use Rattle.rewriting.proofs.Gate.{at-node, gate-at}
 use Rattle.rewriting.proofs.RuleBytes.{redirect-then-put}
 use Rattle.rewriting.proofs.changing.inversion.Statement.{statement}
 use Rattle.rewriting.proofs.changing.inversion.Tie as tie
@@ -11,17 +11,14 @@ use Rattle.rewriting.proofs.changing.inversion.Tie as tie
 node-record-requires : tie.Need-node-record-requires
 node-record-requires c κs = search needs
 
-records-requires : tie.Need-records-requires
-records-requires c κs = at-few (c .before .before .before .before .pre)
-
 plain-requires : tie.Need-plain-requires
-plain-requires c κs = omega (arith, at-node (c .before .before .before .before .before .pre))
+plain-requires c κs = omega (arith, at-node (c .before .before .before .before .pre))
 
 flipped-requires : tie.Need-flipped-requires
 flipped-requires c κs = search needs
 
-redirect-requires : tie.Need-redirect-requires
-redirect-requires c κs = search needs
+redirect-gate-requires : tie.Need-redirect-gate-requires
+redirect-gate-requires c κs = c .before .before .before .before .before .before .pre
 
 place-requires : tie.Need-place-requires
 place-requires c κs = search needs
@@ -37,19 +34,18 @@ same-length c = search needs
 
 returns : tie.Need-returns
 unfolding inversion
-returns c = let at = c .before .before .before .before .before .before .before .before .before .before .before .before .before .before .before .before .pre in
-    redirect-then-put at _ _ (rw (c .before .before .before .before .before .before .before .before .before .before .before .records .ensures) at (c .before .before .before .before .before .before .before .before .redirect .ensures)) (rw (c .before .before .before .before .place .ensures) at (c .before .before .put-record .ensures)) (λ k. c .slice-known3 .given k .fits)
-    ∙ rw ((c .before .before .before .before .before .before .before .before .before .flipped .ensures), (c .before .before .before .before .before .before .before .before .before .before .plain .ensures), (c .before .before .before .inverted-gate .ensures), (c .before .before .before .before .before .before .before .before .before .before .before .before .before .node-record .ensures), gate-at at)
+returns c = let at = c .before .before .before .before .before .before .before .before .before .before .before .before .before .before .before .pre in
+    redirect-then-put at _ _ (c .before .before .before .before .before .before .before .before .redirect-gate .ensures) (rw (c .before .before .before .before .place .ensures) at (c .before .before .put-record .ensures)) (λ k. c .slice-known3 .given k .fits)
+    ∙ rw (c .before .before .before .before .before .before .before .before .before .flipped .ensures, c .before .before .before .before .before .before .before .before .before .before .plain .ensures, c .before .before .before .inverted-gate .ensures, c .before .before .before .before .before .before .before .before .before .before .before .before .node-record .ensures, gate-at at)
 
 pub inversion-spec : {M : Type 1} → statement M
 inversion-spec =
     tie.close
     (tie.spec
     node-record-requires
-    records-requires
     plain-requires
     flipped-requires
-    redirect-requires
+    redirect-gate-requires
     place-requires
     inverted-gate-requires
     put-record-requires

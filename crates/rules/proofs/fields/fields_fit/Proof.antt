@@ -7,6 +7,9 @@ use Rattle.rules.proofs.fields.fields_fit.Tie as tie
 gate-fits-requires : tie.Need-gate-fits-requires
 gate-fits-requires c κs = search needs
 
+asked-requires : tie.Need-asked-requires
+asked-requires c κs = search needs
+
 a-fits-requires : tie.Need-a-fits-requires
 a-fits-requires c κs = search needs
 
@@ -15,4 +18,4 @@ unfolding fieldsFit
 returns c = cc
 
 pub fields-fit-spec : {M : Type 1} → statement M
-fields-fit-spec = tie.close (tie.spec gate-fits-requires a-fits-requires returns)
+fields-fit-spec = tie.close (tie.spec gate-fits-requires asked-requires a-fits-requires returns)
