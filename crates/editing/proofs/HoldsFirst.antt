@@ -67,6 +67,11 @@ module _ {xs : List ℕ} {n : ℕ} (fits : 8 * n ≤ length xs) where
   first-up low high i r h here s =
       first-put (mixed (i + 1) low high) i r h (here ∙ sym (mixed-low (i + 1) low high i (omega arith))) (mixed-next low high i) s
 
+  -- from above
+  pub first-down : (low high : ℕ → Record) {ys : List ℕ} (i : ℕ) (r : Record) → i < n → r ≡ high i → HoldsFirst xs n (mixed (i + 1) low high) ys → HoldsFirst xs n (mixed i low high) (putRecord ys i r)
+  first-down low high i r h here s =
+      first-put (mixed i low high) i r h (here ∙ sym (mixed-high i low high i (omega arith))) (λ j e. sym (mixed-next low high i j e)) s
+
   -- from below: record i is already what it becomes
   pub first-kept : (low high : ℕ → Record) {ys : List ℕ} (i : ℕ) → recordIn ys i ≡ low i → HoldsFirst xs n (mixed i low high) ys → HoldsFirst xs n (mixed (i + 1) low high) ys
   first-kept low high {ys} i here s = record { long = s .long; rest = s .rest; records = λ j l. go j l (ℕ-discrete j i) }

@@ -1,23 +1,23 @@
--- The loops that edit records: each record from the first on, in its place or moved up by one.
+-- The loops that edit records: each record from the first on in its place, or from the last down moved up.
 use Prim.Native.Nat.{ℕ, _+_, _-_, _*_, _/_, _≤_, _<_}
 use mathlib.Core.Path.{_≡_, sym, ap, _∙_}
 use mathlib.Core.List.{List}
 use native.Mathlib.Omega.{arith}
 use native.Mathlib.Decide.{decLt}
-use borrow.Author.Tests.{ltb-false, leb-false}
-use mathlib.Core.Bool.{_||_, false}
-use lib.Dec.{ltb, leb}
+use borrow.Author.Tests.{ltb-false}
+use mathlib.Core.Bool.{_||_, true, false}
+use lib.Dec.{ltb}
 use lib.ListN.{length}
 use Rattle.majority.specs.Table.{recordAt}
 use Rattle.majority.specs.Edit.{edges}
 use Rattle.majority.specs.declared.Record.{Record}
 use Rattle.majority.proofs.Logic.{neither}
-use Rattle.tables.specs.Bytes.{recordIn, tableOf, putRecord, holding}
-use Rattle.tables.proofs.Decoded.{length-table, table-at}
+use Rattle.tables.specs.Bytes.{recordIn, decode, tableOf, recordsOf, putRecord, holding}
+use Rattle.tables.proofs.Decoded.{length-decode, decode-at, length-table, table-at}
 use Rattle.tables.proofs.Encoded.{Bytes}
-use Rattle.editing.specs.Edited.{changedFrom, raise16, grown}
-use Rattle.editing.proofs.HoldsFirst.{HoldsFirst, mixed, mixed-low, mixed-high, first-same, first-up, first-kept, first-holding}
-use Rattle.editing.proofs.Changed.{changed-length, changed-low, changed-high, grown-length, grown-low, grown-here, grown-high}
+use Rattle.editing.specs.Edited.{changedFrom, raise16, grown, noRoom, insertedAt, roomAt}
+use Rattle.editing.proofs.HoldsFirst.{HoldsFirst, mixed, mixed-low, mixed-high, first-same, first-up, first-down, first-kept, first-holding}
+use Rattle.editing.proofs.Changed.{changed-length, changed-low, changed-high, grown-length, grown-low, grown-new, grown-high}
 
 -- a record that the code reads, where the buffer has it
 pub read : (ys : List ℕ) (i : ℕ) → 8 * i + 8 ≤ length ys → recordAt (tableOf ys (length ys / 8)) i ≡ recordIn ys i
@@ -69,50 +69,74 @@ module _ (f : Record → Record) (xs : List ℕ) (first n : ℕ) where
     edit-end ys i h bytes s =
         first-holding fits edited (changed-length f first table within ∙ length-table xs n) (λ j l. mixed-low i _ _ j (omega arith)) bytes s
 
--- the tests that an insertion begins with
-pub insert-room : (xs : List ℕ) (n g : ℕ) → (ltb g 1 || leb (length xs / 8) n) ≡ false → (1 ≤ g) × (8 * (n + 1) ≤ length xs)
-insert-room xs n g e =
-    let w = neither (ltb g 1) (leb (length xs / 8) n) e in
-    let room : n < length xs / 8 = leb-false _ _ (w .1) in
-    (ltb-false _ _ (w .0), omega arith)
+-- there is a place, and room
+pub has-room : (all n g k : ℕ) → noRoom all n g k ≡ false → (1 ≤ g) × (n + k ≤ all) × (g - 1 ≤ n)
+unfolding noRoom
+has-room all n g k e =
+    let w = neither (ltb g 1 || ltb all (n + k)) (ltb n (g - 1)) e in
+    let v = neither (ltb g 1) (ltb all (n + k)) (w .0) in
+    (ltb-false _ _ (v .0), ltb-false _ _ (v .1), ltb-false _ _ (w .1))
 
--- a gate comes directly before node g, among n records
-module _ (xs : List ℕ) (n g : ℕ) (gate : Record) where
-  abbrev pub old : List Record
-  old = tableOf xs n
+-- room is made for k gates directly before node g, among n records
+module _ (xs : List ℕ) (n g k : ℕ) where
+  -- what stands in the places of the gates
+  abbrev standing : List Record
+  standing = decode xs (g - 1) k
 
-  abbrev pub new : List Record
-  new = grown g gate old
+  abbrev roomy : List Record
+  roomy = grown g standing (tableOf xs n)
 
-  -- the records below i are the new ones, and those from i on as they were
+  -- the records from i on are moved up, and those below as they were
   abbrev pub Moving : ℕ → List ℕ → Type 0
-  Moving i ys = HoldsFirst xs (n + 1) (mixed i (recordAt new) (recordIn xs)) ys
+  Moving i ys = HoldsFirst xs (n + k) (mixed (i + k) (recordIn xs) (recordAt roomy)) ys
 
-  module _ (fits : 8 * (n + 1) ≤ length xs) (inside : g - 1 ≤ n) where
-    within-old : g - 1 ≤ length old
-    within-old = omega (arith, length-table xs n)
+  pub move-start : (i : ℕ) → i ≡ n → Moving i xs
+  move-start i e = rw e (first-same xs (n + k) _ (λ j h. sym (mixed-low (n + k) _ _ j h)))
 
-    pub move-start : Moving (g - 1) xs
-    move-start = first-same xs (n + 1) _ (λ j h. go j (decLt j (g - 1)))
+  as-many : length standing ≡ k
+  as-many = length-decode xs k (g - 1)
+
+  -- where there is no room, nothing moves
+  pub no-move : noRoom (length xs / 8) n g k ≡ true → xs ≡ roomAt xs n g k
+  unfolding insertedAt
+  no-move none = rw (as-many, none)
+
+  module _ (room : noRoom (length xs / 8) n g k ≡ false) where
+    fits : 8 * (n + k) ≤ length xs
+    fits = let r = has-room (length xs / 8) n g k room in omega arith
+
+    inside : g - 1 ≤ length (tableOf xs n)
+    inside = let r = has-room (length xs / 8) n g k room in omega (arith, length-table xs n)
+
+    -- a record that moves
+    moves : (i : ℕ) → g - 1 ≤ i → i < n → edges (raise16 g k) (recordIn xs i) ≡ recordAt roomy (i + k)
+    moves i l h =
+        ap (edges (raise16 g k)) (sym (table-at xs n i h))
+        ∙ sym (rw as-many at (grown-high g standing (tableOf xs n) inside i l (omega (arith, length-table xs n))))
+
+    pub move-next : {ys zs : List ℕ} (i next : ℕ) → g - 1 ≤ i → i < n → next ≡ i + 1 → zs ≡ putRecord ys (i + k) (edges (raise16 g k) (recordAt (recordsOf ys) i))
+        → Moving next ys → Moving i zs
+    move-next {ys} i next l h e put s =
+        let same = read ys i (omega (arith, s .long, fits)) ∙ s .records i (omega arith) ∙ mixed-low (next + k) _ _ i (omega arith) in
+        let place : next + k ≡ i + k + 1 = omega arith in
+        rw put (first-down fits (recordIn xs) (recordAt roomy) (i + k) _ (omega arith) (ap (edges (raise16 g k)) same ∙ moves i l h) (rw place at s))
+
+    -- below the records that moved stands what stood there
+    stood : (j : ℕ) → j < g - 1 + k → recordIn xs j ≡ recordAt roomy j
+    stood j h = go (decLt j (g - 1))
       where
-        go : (j : ℕ) → Dec (j < g - 1) → recordIn xs j ≡ mixed (g - 1) (recordAt new) (recordIn xs) j
-        go j (yes l) = sym (mixed-low (g - 1) _ _ j l ∙ grown-low g gate old within-old j l ∙ table-at xs n j (omega arith))
-        go j (no l) = sym (mixed-high (g - 1) _ _ j (omega arith))
+        go : Dec (j < g - 1) → recordIn xs j ≡ recordAt roomy j
+        go (yes l) = sym (grown-low g standing (tableOf xs n) inside j l ∙ table-at xs n j (omega (arith, inside, length-table xs n)))
+        go (no l) =
+            let e : g - 1 + (j - (g - 1)) ≡ j = omega arith in
+            sym (rw e at (grown-new g standing (tableOf xs n) inside (j - (g - 1)) (omega (arith, as-many)) ∙ decode-at xs k (g - 1) (j - (g - 1)) (omega arith)))
 
-    -- the gate is held first
-    pub held-first : gate ≡ recordAt new (g - 1)
-    held-first = sym (grown-here g gate old within-old)
-
-    -- and then the record that gave way, renumbered
-    pub held-next : (ys : List ℕ) (i : ℕ) → g - 1 ≤ i → i < n → Moving i ys → edges (raise16 g) (recordAt (tableOf ys (length ys / 8)) i) ≡ recordAt new (i + 1)
-    held-next ys i l h s =
-        ap (edges (raise16 g)) (read ys i (omega (arith, s .long)) ∙ s .records i (omega arith) ∙ mixed-high i _ _ i (omega arith) ∙ sym (table-at xs n i h))
-        ∙ sym (grown-high g gate old within-old i l (omega (arith, length-table xs n)))
-
-    pub move-next : (ys : List ℕ) (i : ℕ) (r : Record) → i ≤ n → r ≡ recordAt new i → Moving i ys → Moving (i + 1) (putRecord ys i r)
-    move-next ys i r h e s = first-up fits (recordAt new) (recordIn xs) i r (omega arith) e s
-
-    pub move-end : (ys : List ℕ) (r : Record) → r ≡ recordAt new n → Bytes (putRecord ys n r) → Moving n ys → putRecord ys n r ≡ holding new xs
-    move-end ys r e bytes s =
-        first-holding fits new (grown-length g gate old within-old ∙ ap (λ (k : ℕ). k + 1) (length-table xs n)) (λ j l. mixed-low (n + 1) _ _ j l) bytes
-        (move-next ys n r (omega arith) e s)
+    pub move-end : {ys : List ℕ} (i : ℕ) → i ≡ g - 1 → Bytes ys → Moving i ys → ys ≡ roomAt xs n g k
+    unfolding insertedAt
+    move-end i e bytes s =
+        rw (as-many, room)
+        (first-holding fits roomy (grown-length g standing (tableOf xs n) inside ∙ omega (arith, length-table xs n, as-many)) (λ j l. go j (decLt j (i + k))) bytes s)
+      where
+        go : (j : ℕ) → Dec (j < i + k) → mixed (i + k) (recordIn xs) (recordAt roomy) j ≡ recordAt roomy j
+        go j (yes h) = mixed-low (i + k) _ _ j h ∙ stood j (omega arith)
+        go j (no h) = mixed-high (i + k) _ _ j (omega arith)

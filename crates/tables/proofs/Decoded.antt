@@ -11,12 +11,12 @@ use Rattle.majority.specs.Table.{recordOf, blank, recordAt}
 use Rattle.tables.specs.Field.{fieldAt}
 use Rattle.tables.specs.Bytes.{recordIn, decode, tableOf, recordsOf, fieldOf}
 
-length-decode : (xs : List ℕ) (k i : ℕ) → length (decode xs i k) ≡ k
+pub length-decode : (xs : List ℕ) (k i : ℕ) → length (decode xs i k) ≡ k
 unfolding decode
 length-decode xs zero i = refl
 length-decode xs (suc k) i = ap suc (length-decode xs k (suc i))
 
-decode-at : (xs : List ℕ) (k i j : ℕ) → j < k → recordAt (decode xs i k) j ≡ recordIn xs (i + j)
+pub decode-at : (xs : List ℕ) (k i j : ℕ) → j < k → recordAt (decode xs i k) j ≡ recordIn xs (i + j)
 unfolding decode
 decode-at xs zero i j h = absurd (omega arith)
 decode-at xs (suc k) i zero h = let e : i + 0 ≡ i = omega arith in rw e
