@@ -1,16 +1,16 @@
 -- A buffer that holds a table at its front: its records are the table's, and it is that table told byte by byte.
-use Prim.Native.Nat.{ℕ, _+_, _-_, _*_, _≤_, _<_}
-use mathlib.Core.Path.{_≡_, refl, sym, ap, _∙_}
+use Prim.Native.Nat.{ℕ, _*_, _≤_, _<_}
+use mathlib.Core.Path.{_≡_, refl, sym}
 use mathlib.Core.List.{List}
 use native.Mathlib.Omega.{arith}
 use lib.ListN.{length, drop, set, length-set}
-use lib.Seq.{drop-at, drop-drop, getD-set-same, getD-set-other}
+use lib.Seq.{drop-at, getD-set-same, getD-set-other}
 use Rattle.majority.specs.Table.{blank, recordAt}
 use Rattle.majority.specs.declared.Record.{Record}
 use Rattle.tables.specs.Bytes.{tableOf, encode, putRecord, holding}
 use Rattle.tables.proofs.Decoded.{length-table, table-at}
 use Rattle.tables.proofs.Encoded.{Bytes, length-encode, encoded-at, holding-length}
-use Rattle.editing.proofs.HoldsFirst.{HoldsFirst, first-same, first-put, first-table, first-holding}
+use Rattle.editing.proofs.HoldsFirst.{HoldsFirst, first-same, first-put, first-holding}
 
 -- the buffer ys holds the table t, and is otherwise as xs
 abbrev pub Holds : List ℕ → List Record → List ℕ → Type 0
@@ -23,9 +23,6 @@ module _ {xs : List ℕ} where
 
   pub holds-bytes : (t : List Record) {ys : List ℕ} → 8 * length t ≤ length xs → Bytes ys → Holds xs t ys → ys ≡ holding t xs
   holds-bytes t fits bytes s = first-holding fits t refl (λ j h. refl) bytes s
-
-  pub holds-table : (t : List Record) {ys : List ℕ} → 8 * length t ≤ length xs → Holds xs t ys → tableOf ys (length t) ≡ t
-  holds-table t fits s = first-table fits t refl (λ j h. refl) s
 
   -- a record is put
   pub holds-put : (t : List Record) {ys : List ℕ} (i : ℕ) (r : Record) → 8 * length t ≤ length xs → i < length t → Holds xs t ys → Holds xs (set t i r) (putRecord ys i r)
@@ -43,22 +40,3 @@ module _ (t : List Record) (xs : List ℕ) (fits : 8 * length t ≤ length xs) w
     rest = drop-at (encode t) (drop (8 * length t) xs) (8 * length t) (length-encode t);
     records = λ j h. encoded-at t _ j h;
   }
-
--- and of a buffer that held another
-pub holds-over : {xs : List ℕ} (t t′ : List Record) {ys : List ℕ} → 8 * length t′ ≤ length xs → length t ≤ length t′ → Holds xs t ys → Holds xs t′ (holding t′ ys)
-holds-over {xs} t t′ {ys} fits more s =
-    let h = holding-holds t′ ys (omega (arith, s .long)) in
-    record {
-      long = h .long ∙ s .long;
-      rest = h .rest ∙ behind;
-      records = h .records;
-    }
-  where
-    behind : drop (8 * length t′) ys ≡ drop (8 * length t′) xs
-    behind =
-        let e : 8 * length t′ ≡ 8 * length t + (8 * length t′ - 8 * length t) = omega arith in
-        ap (λ (k : ℕ). drop k ys) e
-        ∙ sym (drop-drop (8 * length t′ - 8 * length t) (8 * length t) ys)
-        ∙ ap (drop (8 * length t′ - 8 * length t)) (s .rest)
-        ∙ drop-drop (8 * length t′ - 8 * length t) (8 * length t) xs
-        ∙ ap (λ (k : ℕ). drop k xs) (sym e)

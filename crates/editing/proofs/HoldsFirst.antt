@@ -81,7 +81,7 @@ module _ {xs : List ℕ} {n : ℕ} (fits : 8 * n ≤ length xs) where
       go j l (no e) = s .records j l ∙ mixed-next low high i j e
 
   -- all records are told, so all bytes are
-  pub first-table : {want : ℕ → Record} {ys : List ℕ} (t : List Record) → length t ≡ n → ((j : ℕ) → j < n → want j ≡ recordAt t j) → HoldsFirst xs n want ys → tableOf ys n ≡ t
+  first-table : {want : ℕ → Record} {ys : List ℕ} (t : List Record) → length t ≡ n → ((j : ℕ) → j < n → want j ≡ recordAt t j) → HoldsFirst xs n want ys → tableOf ys n ≡ t
   first-table {want} {ys} t len same s =
       ext-getD blank (tableOf ys n) t (length-table ys n ∙ sym len)
       (λ j h. let l : j < n = omega (arith, length-table ys n) in table-at ys n j l ∙ s .records j l ∙ same j l)

@@ -1,22 +1,22 @@
 -- On an accepted table the edits of lent records are those of the rules: redirect, insert, and a gate that becomes another.
 use Prim.Native.Nat.{ℕ, _+_, _-_, _*_, _%_, _≤_, _<_}
-use mathlib.Core.Path.{_≡_, sym, ap, _∙_}
-use mathlib.Core.List.{List, [], _∷_, map}
+use mathlib.Core.Path.{_≡_, sym, _∙_}
+use mathlib.Core.List.{List, map}
 use native.Mathlib.Omega.{arith}
-use native.Mathlib.Decide.{decLt, ℕ-discrete}
+use native.Mathlib.Decide.{decLt}
 use borrow.Author.Tests.{ne-eqb}
 use lib.ListN.{length, length-map}
 use lib.Seq.{ext-getD}
-use Rattle.majority.specs.Edge.{nodeOf, redirect, raise}
+use Rattle.majority.specs.Edge.{nodeOf, redirect, raised, raise}
 use Rattle.majority.specs.Table.{recordOf, blank, recordAt, WellFormed}
 use Rattle.majority.specs.Edit.{edges, redirectAll, insert}
 use Rattle.majority.specs.declared.Record.{Record}
 use Rattle.majority.proofs.Formed.{reads-lower}
 use Rattle.rules.proofs.KeptByNodes.{Each}
-use Rattle.rules.proofs.Raise.{raised-from}
-use Rattle.rules.proofs.Insert.{insert-length, insert-old, insert-new, insert-below, raise-within}
+use Rattle.rules.proofs.Raise.{raised-cases}
+use Rattle.rules.proofs.Insert.{insert-length, insert-cases, raise-lower, raise-within}
 use Rattle.editing.specs.Edited.{changedFrom, raise16, grown}
-use Rattle.editing.proofs.Changed.{map-at, changed-length, changed-low, changed-high, grown-length, grown-low, grown-here, grown-high}
+use Rattle.editing.proofs.Changed.{map-at, changed-length, changed-low, changed-high, grown-length, grown-low, grown-new, grown-high}
 
 -- the record with each of its edges changed alike
 same-edges : (f h : ℕ → ℕ) (r : Record) → Each (λ x. f x ≡ h x) r → edges f r ≡ edges h r
@@ -48,32 +48,26 @@ module _ {n m o g : ℕ} {t : List Record} (formed : WellFormed n m o t) (some :
       go j h (yes l) = changed-low (edges (redirect g e)) g t inside j l ∙ sym (unnamed e j l) ∙ sym (map-at (edges (redirect g e)) t j h)
       go j h (no l) = changed-high (edges (redirect g e)) g t inside j (omega arith) h ∙ sym (map-at (edges (redirect g e)) t j h)
 
-  module _ (few : n + m ≤ 2000) where
+  module _ (news : List Record) (few : n + m + length news ≤ 32767) where
     -- within 16 bits
-    raise-short : (j : ℕ) → j < length t → edges (raise16 g) (recordAt t j) ≡ edges (raise g 1) (recordAt t j)
+    raise-short : (j : ℕ) → j < length t → edges (raise16 g (length news)) (recordAt t j) ≡ edges (raise g (length news)) (recordAt t j)
     unfolding raise16
     raise-short j h =
-        let w = raise-within formed g [] 1 j h in
-        same-edges (raise16 g) (raise g 1) (recordAt t j) (short _ (w .0), short _ (w .1), short _ (w .2))
+        let w = raise-within formed g news (length news) j h in
+        same-edges (raise16 g (length news)) (raise g (length news)) (recordAt t j) (short _ (w .0), short _ (w .1), short _ (w .2))
       where
-        short : (x : ℕ) → raise g 1 x ≤ 2 * (n + m + 1) + 1 → raise g 1 x % 65536 ≡ raise g 1 x
+        short : (x : ℕ) → raise g (length news) x ≤ 2 * (n + m + length news) + 1 → raise g (length news) x % 65536 ≡ raise g (length news) x
         short x l = omega arith
 
-    pub insert-edit : (r : Record) → grown g r t ≡ insert g (r ∷ []) t
-    insert-edit r =
+    pub insert-edit : grown g news t ≡ insert g news t
+    insert-edit =
         let low : g - 1 ≤ length t = omega (arith, inside) in
-        let len = grown-length g r t low in
-        ext-getD blank _ _ (len ∙ sym (insert-length g (r ∷ []) t (omega arith) low)) (λ j h. go j low (omega (arith, len)) (decLt j (g - 1)) (ℕ-discrete j (g - 1)))
+        let len = grown-length g news t low in
+        ext-getD blank _ _ (len ∙ sym (insert-length g news t (omega arith) low))
+        (λ j h. insert-cases g news t (omega arith) low (λ k r. recordAt (grown g news t) k ≡ r) (old low) (grown-new g news t low) j (omega (arith, len)))
       where
-        go : (j : ℕ) → g - 1 ≤ length t → j < length t + 1 → Dec (j < g - 1) → Dec (j ≡ g - 1) → recordAt (grown g r t) j ≡ recordAt (insert g (r ∷ []) t) j
-        go j low h (yes l) _ = grown-low g r t low j l ∙ sym (insert-below formed g (r ∷ []) (omega arith) low j l)
-        go j low h (no l) (yes e) =
-            let z : g - 1 + 0 ≡ g - 1 = omega arith in
-            rw e (grown-here g r t low ∙ sym (rw z at (insert-new g (r ∷ []) t (omega arith) low 0 (omega arith))))
-        go j low h (no l) (no e) =
-            let k = j - 1 in
-            let next : k + 1 ≡ j = omega arith in
-            rw (← next)
-            (grown-high g r t low k (omega arith) (omega arith)
-            ∙ raise-short k (omega arith)
-            ∙ sym (ap (recordAt (insert g (r ∷ []) t)) (sym (raised-from (g - 1) 1 k (omega arith))) ∙ insert-old g (r ∷ []) t (omega arith) low k))
+        old : g - 1 ≤ length t → (j : ℕ) → j < length t → recordAt (grown g news t) (raised (g - 1) (length news) j) ≡ edges (raise g (length news)) (recordAt t j)
+        old low j h =
+            raised-cases (g - 1) (length news) (λ k. recordAt (grown g news t) k ≡ edges (raise g (length news)) (recordAt t j)) j
+            (λ l. grown-low g news t low j l ∙ sym (raise-lower formed g news j h (omega arith)))
+            (λ l. grown-high g news t low j l h ∙ raise-short j h)

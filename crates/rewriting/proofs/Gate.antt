@@ -1,38 +1,26 @@
 -- What a rule knows of its gate and of the nodes that it names.
-use Prim.Native.Nat.{ℕ, suc, _+_, _-_, _*_, _≤_, _<_}
+use Prim.Native.Nat.{ℕ, suc, _+_, _-_, _≤_, _<_}
 use mathlib.Core.Path.{_≡_, refl, ap, ap₂, _∙_}
-use mathlib.Core.Bool.{true, false, not}
+use mathlib.Core.Bool.{true, false}
 use mathlib.Core.List.{List}
 use native.Mathlib.Omega.{arith}
-use borrow.Author.Tests.{ltb-true}
-use lib.Dec.{ltb}
 use lib.ListN.{length}
-use Rattle.majority.specs.Edge.{nodeOf, isInverted}
-use Rattle.majority.specs.Table.{gate, Below, WellFormed}
+use Rattle.majority.specs.Edge.{nodeOf}
+use Rattle.majority.specs.Table.{Below, WellFormed}
 use Rattle.majority.specs.Edit.{nodeRecord}
-use Rattle.rules.specs.Rules.{plainGate, named, majorityForm, associativityForm, outwardForm, inwardForm, shareForm}
+use Rattle.rules.specs.Rules.{named, majorityForm, associativityForm, outwardForm, inwardForm, shareForm}
 use Rattle.rules.specs.Step.{isSweep, fieldsFit, hasForm}
 use Rattle.rules.specs.declared.Rule.{Rule}
 use Rattle.rules.specs.declared.Rule.the-variants.{Exchange, Majority, Associativity, Outward, Inward, Inversion, Share, Sweep}
 use Rattle.majority.specs.declared.Record.{Record}
 use Rattle.majority.specs.declared.Counts.{Counts}
-use Rattle.majority.proofs.Logic.{both}
 use Rattle.majority.proofs.Formed.{reads-lower}
-use Rattle.rules.proofs.GateNodes.{GateOf}
 use Rattle.rules.proofs.AcceptedStep.{gate-field, share-field}
 use Rattle.tables.specs.Sound.{Sound, tableIn}
 use Rattle.tables.proofs.Decoded.{length-table}
 use Rattle.tables.proofs.Sound.{sound-accepted, read-record}
 use Rattle.tables.specs.Bytes.{recordsOf}
 use Rattle.rewriting.specs.inner.Fitting.{AtGate, Fitting}
-
--- both records are gates that read nodes below g
-abbrev pub Inserting : ℕ → Record → Record → Type 0
-Inserting g p q = (p .kind ≡ 2) × Below g p × (q .kind ≡ 2) × Below g q
-
--- an uninverted gate is a node above the inputs
-plain-above : (n e : ℕ) → plainGate n e ≡ true → n < nodeOf e
-plain-above n e h = ltb-true _ _ (both (not (isInverted e)) (ltb n (nodeOf e)) h .1)
 
 -- the record that the code reads for a node of the table
 node-at : {xs : List ℕ} {c : Counts} → Sound xs c → (k : ℕ) → k ≤ c .inputs + c .gates → nodeRecord (recordsOf xs) k ≡ nodeRecord (tableIn xs c) k
@@ -56,9 +44,6 @@ module _ {xs : List ℕ} {c : Counts} {g : ℕ} (at : AtGate xs c g) where
   pub at-formed : WellFormed (c .inputs) (c .gates) (c .outputs) table
   at-formed = sound-accepted (at .sound) .formed
 
-  pub at-is : GateOf (c .inputs) (c .gates) (c .outputs) g table
-  at-is = record { formed = at-formed; from = at .from; upto = at .upto }
-
   -- node numbers are small, and so is the number of records
   pub at-small : (c .inputs ≤ 32) × (c .gates ≤ 1024) × (c .outputs ≤ 32)
   at-small = let l = sound-accepted (at .sound) .limits in (l .inputs, l .gates, l .outputs)
@@ -72,25 +57,9 @@ module _ {xs : List ℕ} {c : Counts} {g : ℕ} (at : AtGate xs c g) where
   pub at-length : length table ≡ c .inputs + c .gates + c .outputs
   at-length = length-table xs _
 
-  -- a node up to g reads lower nodes
-  reads-below : (k : ℕ) → 1 ≤ k → k ≤ g → Below k (nodeRecord table k)
-  reads-below k p q = let e : suc (k - 1) ≡ k = omega arith in rw e at (reads-lower at-formed (k - 1) (omega (arith, at-length, at .upto, sound-accepted (at .sound) .limits .some)))
-
-  pub gate-low : Below g (nodeRecord table g)
-  gate-low = reads-below g (omega (arith, at .from)) (omega arith)
-
-  -- a node that the gate names, if it is an uninverted gate
-  named-low : (e : ℕ) → nodeOf e < g → plainGate (c .inputs) e ≡ true → Below (nodeOf e) (named table e)
-  named-low e l h = reads-below (nodeOf e) (omega (arith, plain-above (c .inputs) e h)) (omega arith)
-
-  -- the gates that distributivity outward inserts
-  pub outward-gates : plainGate (c .inputs) (nodeRecord table g .e3) ≡ true
-      → Inserting g (gate (nodeRecord table g .e1) (nodeRecord table g .e2) (named table (nodeRecord table g .e3) .e1))
-      (gate (nodeRecord table g .e1) (nodeRecord table g .e2) (named table (nodeRecord table g .e3) .e2))
-  outward-gates h =
-      let low = gate-low in
-      let deep = named-low _ (low .third) h in
-      (refl, record { first = low .first; second = low .second; third = omega (arith, low .third, deep .first) }, refl, record { first = low .first; second = low .second; third = omega (arith, low .third, deep .second) })
+  -- it reads lower nodes
+  gate-low : Below g (nodeRecord table g)
+  gate-low = let e : suc (g - 1) ≡ g = omega (arith, at .from) in rw e at (reads-lower at-formed (g - 1) (omega (arith, at-length, at .upto, sound-accepted (at .sound) .limits .some)))
 
   -- the records that the code reads for the gate, and for what an edge of it names
   pub gate-at : nodeRecord (recordsOf xs) g ≡ nodeRecord table g

@@ -1,7 +1,6 @@
 -- an edit leaves the rule's table
 mod Gate  -- what a rule knows of its gate
 mod Edits  -- on an accepted table the edits of lent records are those of the rules
-mod TwoInserted  -- two gates one after the other are two at once
 mod RuleBytes  -- what the calls of a rule leave in the buffer
 -- sweep
 mod Marks  -- the marks are those of the reached nodes

@@ -3,6 +3,7 @@ use crate::nodes::named_record;
 use crate::nodes::node_record;
 use crate::nodes::place;
 use editing::insert;
+use editing::insert_two;
 use editing::redirect;
 use majority::Counts;
 use majority::flipped;
@@ -19,10 +20,10 @@ use rules::outward_gate;
 use rules::outward_second;
 use tables::put_record;
 ghost use mathlib.Core.Path.{_≡_};
-ghost use mathlib.Core.Bool.{true, false};
-ghost use Prim.Native.Nat.{_+_, _≤_, _<_};
-ghost use Rattle.majority.specs.Edit.{nodeRecord, redirectAll};
-ghost use Rattle.rules.specs.Rules.{plain as plainEdge, exchange as exchangeRule, associativity as associativityRule, outwardForm, outward as outwardRule, inward as inwardRule, inversion as inversionRule};
+ghost use mathlib.Core.Bool.{false};
+ghost use Prim.Native.Nat.{_+_, _≤_};
+ghost use Rattle.majority.specs.Edit.{redirectAll};
+ghost use Rattle.rules.specs.Rules.{plain as plainEdge, exchange as exchangeRule, associativity as associativityRule, outward as outwardRule, inward as inwardRule, inversion as inversionRule};
 ghost use Rattle.rules.specs.Step.{isSweep, rewritten};
 ghost use Rattle.tables.specs.Sound.{tableIn};
 ghost use Rattle.tables.specs.Bytes.{holding};
@@ -71,14 +72,18 @@ fn associativity(s: &mut [u8], counts: Counts, gate: u16)
 }
 
 fn outward(s: &mut [u8], counts: Counts, gate: u16)
-    requires { ⌜ AtGate (now s) counts gate × Room 2 (now s) counts × (outwardForm (counts .inputs) (nodeRecord (tableIn (now s) counts) gate) ≡ true) ⌝ }
+    requires { ⌜ AtGate (now s) counts gate × Room 2 (now s) counts ⌝ }
     ensures { λ _. ⌜ now (s .exit) ≡ holding (outwardRule gate (tableIn (now (s .entry)) counts)) (now (s .entry)) ⌝ }
 {
     let r = node_record(s, gate);
     let h = named_record(s, r.e3);
-    let n = records(counts);
-    insert(s, n, gate, outward_first(r, h));
-    insert(s, n + 1, gate + 1, outward_second(r, h));
+    insert_two(
+        s,
+        records(counts),
+        gate,
+        outward_first(r, h),
+        outward_second(r, h),
+    );
     put_record(
         s,
         gate as usize + 1,

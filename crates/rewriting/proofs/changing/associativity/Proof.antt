@@ -1,6 +1,7 @@
 -- `changing::associativity` meets its contract: a gate is inserted, and the one above it becomes another.
 use borrow.Author.Needs.{needs}
 use mathlib.Core.Path.{_∙_}
+use mathlib.Core.List.{[], _∷_}
 use native.Mathlib.Omega.{arith}
 use Rattle.rules.specs.Rules.{associativity}
 use Rattle.rewriting.proofs.Gate.{at-few, at-node, gate-at, third-at}
@@ -38,7 +39,7 @@ same-length c = search needs
 returns : tie.Need-returns
 unfolding associativity
 returns c = let at = c .before .before .before .before .before .before .before .before .before .before .before .before .before .before .before .before .before .pre .0 in
-    insert-then-put at _ _ (c .before .before .before .before .before .before .before .before .before .before .before .before .before .before .before .before .before .pre .1) (rw (c .before .before .before .before .before .before .before .before .before .before .records .ensures) at (c .before .before .before .before .before .before .before .before .insert .ensures)) (c .before .before .put-record .ensures) (λ k. c .slice-known3 .given k .fits)
+    insert-then-put at (_ ∷ []) (omega arith) (c .before .before .before .before .before .before .before .before .before .before .before .before .before .before .before .before .before .pre .1) _ _ (omega arith) (rw (c .before .before .before .before .before .before .before .before .before .before .records .ensures) at (c .before .before .before .before .before .before .before .before .insert .ensures)) (c .before .before .put-record .ensures) (λ k. c .slice-known3 .given k .fits)
     ∙ rw ((c .before .before .before .before .before .before .before .before .before .associativity-new .ensures), (c .before .before .before .associativity-gate .ensures), (c .before .before .before .before .plain .ensures), (c .before .before .before .before .before .before .before .before .before .before .before .before .named-record .ensures), (c .before .before .before .before .before .before .before .before .before .before .before .before .before .before .node-record .ensures), third-at at, gate-at at)
 
 pub associativity-spec : {M : Type 1} → statement M

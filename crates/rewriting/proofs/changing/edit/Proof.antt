@@ -4,7 +4,7 @@ use mathlib.Core.Path.{_∙_}
 use mathlib.Core.Bool.{true≢false}
 use native.Mathlib.Omega.{arith}
 use Rattle.rules.specs.Rules.{majorityRule, share}
-use Rattle.rules.specs.Step.{hasForm, rewritten}
+use Rattle.rules.specs.Step.{rewritten}
 use Rattle.rules.proofs.AcceptedStep.{share-field}
 use Rattle.rewriting.proofs.Gate.{fit-gate, at-node, gate-at}
 use Rattle.rewriting.proofs.changing.edit.Statement.{statement}
@@ -38,8 +38,7 @@ enum-told-4 : tie.Need-enum-told-4
 enum-told-4 c = search needs
 
 outward-requires : tie.Need-outward-requires
-unfolding hasForm
-outward-requires c κs = (fit-gate (c .before .before .before .before .pre .0) (c .before .before .before .before .pre .1), rw (c .before .enum-told4 .given .1) at (c .before .before .before .before .pre .0 .room), rw (c .before .enum-told4 .given .1) at (c .before .before .before .before .pre .0 .form))
+outward-requires c κs = (fit-gate (c .before .before .before .before .pre .0) (c .before .before .before .before .pre .1), rw (c .before .enum-told4 .given .1) at (c .before .before .before .before .pre .0 .room))
 
 enum-told-5 : tie.Need-enum-told-5
 enum-told-5 c = search needs

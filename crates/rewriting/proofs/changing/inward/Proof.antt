@@ -1,6 +1,7 @@
 -- `changing::inward` meets its contract: a gate is inserted, and the one above it becomes another.
 use borrow.Author.Needs.{needs}
 use mathlib.Core.Path.{_∙_}
+use mathlib.Core.List.{[], _∷_}
 use native.Mathlib.Omega.{arith}
 use Rattle.rules.specs.Rules.{inward}
 use Rattle.rewriting.proofs.Gate.{at-few, at-node, gate-at, first-at, second-at}
@@ -41,7 +42,7 @@ same-length c = search needs
 returns : tie.Need-returns
 unfolding inward
 returns c = let at = c .before .before .before .before .before .before .before .before .before .before .before .before .before .before .before .before .before .before .before .pre .0 in
-    insert-then-put at _ _ (c .before .before .before .before .before .before .before .before .before .before .before .before .before .before .before .before .before .before .before .pre .1) (rw (c .before .before .before .before .before .before .before .before .before .before .records .ensures) at (c .before .before .before .before .before .before .before .before .insert .ensures)) (c .before .before .put-record .ensures) (λ k. c .slice-known3 .given k .fits)
+    insert-then-put at (_ ∷ []) (omega arith) (c .before .before .before .before .before .before .before .before .before .before .before .before .before .before .before .before .before .before .before .pre .1) _ _ (omega arith) (rw (c .before .before .before .before .before .before .before .before .before .before .records .ensures) at (c .before .before .before .before .before .before .before .before .insert .ensures)) (c .before .before .put-record .ensures) (λ k. c .slice-known3 .given k .fits)
     ∙ rw ((c .before .before .before .before .before .before .before .before .before .inward-new .ensures), (c .before .before .before .inward-gate .ensures), (c .before .before .before .before .plain .ensures), (c .before .before .before .before .before .before .before .before .before .before .before .before .before .before .named-record .ensures), (c .before .before .before .before .before .before .before .before .before .before .before .before .named-record2 .ensures), (c .before .before .before .before .before .before .before .before .before .before .before .before .before .before .before .before .node-record .ensures), first-at at, second-at at, gate-at at)
 
 pub inward-spec : {M : Type 1} → statement M
