@@ -6,13 +6,14 @@ use mathlib.Core.List.{List}
 use mathlib.Core.Logic.{⊎-elim}
 use native.Mathlib.Nat.{eq-or-lt-of-le}
 use native.Mathlib.Omega.{arith}
+use borrow.Author.Tests.{lt-ltb}
 use lib.ListN.{getD, set, length-set}
 use lib.Seq.{getD-set-same, getD-set-other}
 use Rattle.majority.specs.Edge.{nodeOf}
 use Rattle.majority.specs.Table.{recordAt, Below}
 use Rattle.majority.specs.Node.{Meaning, edgeWorth, worth}
 use Rattle.majority.specs.Value.{values, bit, outputValue}
-use Rattle.majority.specs.Level.{levels, level}
+use Rattle.majority.specs.Level.{above, levels, level}
 use Rattle.majority.specs.declared.Record.{Record}
 use Rattle.majority.specs.declared.Counts.{Counts}
 use Rattle.majority.proofs.Nodes.{edge-agrees, node-zero}
@@ -20,7 +21,8 @@ use Rattle.majority.proofs.Formed.{input-eq, gate-eq, reads-nodes, below-more}
 use Rattle.majority.proofs.Levels.{edge-level, level-at-most}
 use Rattle.tables.specs.Sound.{Sound, tableIn, Fresh}
 use Rattle.tables.proofs.Sound.{sound-accepted, sound-formed}
-use Rattle.questions.specs.inner.Worths.{Holds, HoldsInputs, edgeValue, gateValue, gateLevel}
+use Rattle.questions.specs.inner.Worths.{Holds, HoldsInputs, edgeValue, gateValue}
+use Rattle.questions.specs.Levelled.{levelAt, gateLevel}
 
 -- one more worth
 pub holds-more : {A : Type 0} (𝓜 : Meaning A) {rs : List Record} {k : ℕ} {ws : List A} (x : A) → k < 1056 → x ≡ worth 𝓜 rs (k + 1) → Holds 𝓜 rs k ws → Holds 𝓜 rs (k + 1) (set ws (k + 1) x)
@@ -73,14 +75,18 @@ module _ {xs : List ℕ} {c : Counts} (sound : Sound xs c) where
   gate-value a i p q holds = gate-holds (values a) i p q holds
 
   pub gate-level : {ls : List ℕ} (i : ℕ) → c .inputs ≤ i → i < c .inputs + c .gates → Holds levels table i ls → gateLevel ls (recordAt table i) ≡ level table (i + 1)
-  gate-level {ls} i p q holds = sym (ap₃ (edge-level _ _) (edge-level _ _) (edge-level _ _)) ∙ gate-holds levels i p q holds
+  unfolding gateLevel levelAt
+  gate-level {ls} i p q holds =
+      let limits = sound-accepted sound .limits in
+      let low = sound-formed sound .gates i p q .1 in
+      let small : level table (i + 1) ≤ 1057 = omega (arith, level-at-most (sound-formed sound) (i + 1) (omega arith), limits) in
+      let here : above (getD ls (nodeOf (recordAt table i .e1)) 0) (getD ls (nodeOf (recordAt table i .e2)) 0) (getD ls (nodeOf (recordAt table i .e3)) 0) ≡ level table (i + 1) =
+      sym (ap₃ (edge-level _ _) (edge-level _ _) (edge-level _ _)) ∙ gate-holds levels i p q holds
+      in
+      rw (lt-ltb (nodeOf (recordAt table i .e1)) 1057 (omega (arith, low .first)), lt-ltb (nodeOf (recordAt table i .e2)) 1057 (omega (arith, low .second)), lt-ltb (nodeOf (recordAt table i .e3)) 1057 (omega (arith, low .third)), here) (omega arith)
     where
       ap₃ : {a b d a′ b′ d′ : ℕ} → a ≡ a′ → b ≡ b′ → d ≡ d′ → levels .gate a b d ≡ levels .gate a′ b′ d′
       ap₃ p q r = cc
-
-  -- a level is small
-  pub gate-level-small : {ls : List ℕ} (i : ℕ) → c .inputs ≤ i → i < c .inputs + c .gates → Holds levels table i ls → gateLevel ls (recordAt table i) ≤ 1057
-  gate-level-small i p q holds = omega (arith, gate-level i p q holds, level-at-most (sound-formed sound) (i + 1) (omega arith), sound-accepted sound .limits)
 
   -- the inputs to begin with
   pub values-begin : (a : ℕ) {vs : List Bool} → HoldsInputs a (c .inputs) vs → Holds (values a) table (c .inputs) vs

@@ -5,20 +5,18 @@ use majority::Counts;
 use majority::Record;
 use majority::higher;
 use majority::node;
+use std::num::wrapping_add_u16;
 use tables::Checked;
 use tables::record_at;
 ghost use mathlib.Core.Path.{_≡_};
-ghost use Prim.Native.Nat.{_+_, _≤_, _<_};
-ghost use lib.ListN.{getD};
 ghost use Rattle.majority.specs.Edge.{nodeOf};
-ghost use Rattle.majority.specs.Table.{Below};
-ghost use Rattle.majority.specs.Level.{depth as depthOf};
 ghost use Rattle.refusals.specs.Reply.{accepted, andThen};
 ghost use Rattle.tables.specs.Said.{saidCheck};
-ghost use Rattle.tables.specs.Sound.{Sound, SoundAfter, tableIn, Fresh};
+ghost use Rattle.tables.specs.Bytes.{recordsOf};
+ghost use Rattle.tables.specs.Sound.{Sound, SoundAfter, tableIn};
 ghost use Rattle.questions.specs.Said.{saidReport};
 ghost use Rattle.questions.specs.Calls.{sizeOf};
-ghost use Rattle.questions.specs.inner.Worths.{gateLevel};
+ghost use Rattle.questions.specs.Levelled.{levelAt, gateLevel, levelled, highestLevel};
 
 fn wide(level: u16) -> usize
     ensures { λ r. ⌜ r ≡ level ⌝ }
@@ -26,39 +24,45 @@ fn wide(level: u16) -> usize
     level as usize
 }
 
-// The level of the node that an edge names.
+// The level of the node that an edge names, 0 where the array has no place for it.
 fn edge_level(levels: &[u16; 1057], edge: u16) -> u16
-    requires { ⌜ nodeOf edge < 1057 ⌝ }
-    ensures { λ r. ⌜ r ≡ getD (now (levels .entry)) (nodeOf edge) 0 ⌝ }
+    ensures { λ r. ⌜ r ≡ levelAt (now (levels .entry)) (nodeOf edge) ⌝ }
 {
-    levels[node(edge) as usize]
+    let k = node(edge) as usize;
+    if k < 1057 {
+        return levels[k];
+    }
+    0
 }
 
 // The level of a gate.
 fn gate_level(levels: &[u16; 1057], gate: Record) -> u16
-    requires { ⌜ Below 1057 gate × (gateLevel (now levels) gate ≤ 1057) ⌝ }
     ensures { λ r. ⌜ r ≡ gateLevel (now (levels .entry)) gate ⌝ }
 {
     let first = edge_level(levels, gate.e1);
     let second = edge_level(levels, gate.e2);
     let third = edge_level(levels, gate.e3);
-    higher(first, higher(second, third)) + 1
+    wrapping_add_u16(higher(first, higher(second, third)), 1)
 }
 
-// Sets the levels of the gates, all levels being 0, and answers the depth.
-fn set_levels(levels: &mut [u16; 1057], s: &[u8], counts: Counts) -> usize
-    requires { ⌜ Sound (now s) counts × Fresh 0 (now levels) ⌝ }
-    ensures { λ r. ⌜ r ≡ depthOf (counts .inputs) (counts .gates) (tableIn (now (s .entry)) counts) ⌝ }
+// Sets the levels of the gates that are the records of s from `first` on, up to n, each from those of lower nodes; answers the highest.
+// Where the array has no place for them nothing is set.
+pub fn set_levels(levels: &mut [u16; 1057], s: &[u8], first: usize, n: usize) -> u16
+    ensures highest { λ r. ⌜ r ≡ highestLevel (recordsOf (now (s .entry))) first n (now (levels .entry)) ⌝ }
+    ensures levels { λ _. ⌜ now (levels .exit) ≡ levelled (recordsOf (now (s .entry))) first n (now (levels .entry)) ⌝ }
 {
-    let mut depth: u16 = 0;
-    let mut i = counts.inputs;
-    while i < counts.inputs + counts.gates {
+    if 1056 < n {
+        return 0;
+    }
+    let mut highest: u16 = 0;
+    let mut i = first;
+    while i < n {
         let level = gate_level(levels, record_at(s, i));
         levels[i + 1] = level;
-        depth = higher(depth, level);
+        highest = higher(highest, level);
         i += 1;
     }
-    wide(depth)
+    highest
 }
 
 // The size and depth of an accepted table.
@@ -67,10 +71,10 @@ fn size(s: &[u8], counts: Counts) -> Size
     ensures { λ r. ⌜ r ≡ sizeOf (tableIn (now (s .entry)) counts) counts ⌝ }
 {
     let mut levels = [0u16; 1057];
-    let depth = set_levels(&mut levels, s, counts);
+    let depth = set_levels(&mut levels, s, counts.inputs, counts.inputs + counts.gates);
     Size {
         gates: counts.gates,
-        depth,
+        depth: wide(depth),
     }
 }
 

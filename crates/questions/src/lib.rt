@@ -5,6 +5,7 @@ mod values;
 
 pub use claimed::evaluate_as;
 pub use claimed::report_as;
+pub use levels::set_levels;
 use levels::size_after;
 use refusals::Refusal;
 use tables::check;

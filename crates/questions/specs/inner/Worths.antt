@@ -8,7 +8,6 @@ use Rattle.majority.specs.If.{if_then_else_}
 use Rattle.majority.specs.Edge.{nodeOf, isInverted}
 use Rattle.majority.specs.Node.{Meaning, worth}
 use Rattle.majority.specs.Value.{majorityOf, bit}
-use Rattle.majority.specs.Level.{above}
 use Rattle.majority.specs.declared.Record.{Record}
 
 -- the list ws holds what the nodes 0 to k of the table rs are worth, and has room for every node
@@ -26,9 +25,6 @@ pub record HoldsInputs (a n : ℕ) (vs : List Bool) : Type 0 where
   pub constant : getD vs 0 false ≡ false
   pub inputs : (i : ℕ) → suc i ≤ n → getD vs (suc i) false ≡ bit a i
 
--- the value of a gate, and its level, where those of the nodes stand in a list
+-- the value of a gate, where those of the nodes stand in a list
 abbrev pub gateValue : List Bool → Record → Bool
 gateValue vs r = majorityOf (edgeValue vs (r .e1)) (edgeValue vs (r .e2)) (edgeValue vs (r .e3))
-
-abbrev pub gateLevel : List ℕ → Record → ℕ
-gateLevel ls r = above (getD ls (nodeOf (r .e1)) 0) (getD ls (nodeOf (r .e2)) 0) (getD ls (nodeOf (r .e3)) 0)

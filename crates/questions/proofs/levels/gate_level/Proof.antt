@@ -1,12 +1,11 @@
 -- `levels::gate_level` meets its contract.
-use Prim.Native.Nat.{_+_, _≤_}
 use borrow.Author.Needs.{needs}
-use mathlib.Core.Path.{_≡_, _∙_}
-use native.Mathlib.Omega.{arith}
+use mathlib.Core.Path.{_∙_}
 use Rattle.majority.proofs.Levels.{above-by}
-use Rattle.questions.specs.inner.Worths.{gateLevel}
+use Rattle.questions.specs.Levelled.{gateLevel}
 use Rattle.questions.proofs.levels.gate_level.Statement.{statement}
 use Rattle.questions.proofs.levels.gate_level.Tie as tie
+use Rattle.std.proofs.num.wrapping_add_u16.Reads as wrapping-add-u16-reads
 
 edge-level-requires : tie.Need-edge-level-requires
 edge-level-requires c κs = search needs
@@ -23,16 +22,14 @@ higher-requires c κs = search needs
 higher-requires-2 : tie.Need-higher-requires-2
 higher-requires-2 c κs = search needs
 
-add-result : tie.Need-add-result
-add-result c = let d = c .before .before in
-    let a = d .before .before .before .args in
-    let e : c .higher2 .result + 1 ≡ gateLevel (a .levels .now) (a .gate) = above-by _ _ _ _ _ (c .before .higher .ensures) (c .higher2 .ensures) ∙ rw (d .edge-level3 .ensures, d .before .edge-level2 .ensures, d .before .before .edge-level .ensures) in
-    let small : gateLevel (a .levels .now) (a .gate) ≤ 1057 = d .before .before .before .pre .1 in
-    omega arith
+wrapping-add-u16-requires : tie.Need-wrapping-add-u16-requires
+wrapping-add-u16-requires c κs = search needs
 
 returns : tie.Need-returns
-returns c = let d = c .before .before in
-    above-by _ _ _ _ _ (c .before .higher .ensures) (c .higher2 .ensures) ∙ rw (d .edge-level3 .ensures, d .before .edge-level2 .ensures, d .before .before .edge-level .ensures)
+unfolding gateLevel
+returns c = let d = c .before .before .before in
+    let sum = above-by _ _ _ _ _ (c .before .before .higher .ensures) (c .before .higher2 .ensures) in
+    c .wrapping-add-u16 .ensures ∙ rw (sum, d .edge-level3 .ensures, d .before .edge-level2 .ensures, d .before .before .edge-level .ensures)
 
 pub gate-level-spec : {M : Type 1} → statement M
 gate-level-spec =
@@ -43,5 +40,5 @@ gate-level-spec =
     edge-level-requires-3
     higher-requires
     higher-requires-2
-    add-result
+    wrapping-add-u16-requires
     returns)

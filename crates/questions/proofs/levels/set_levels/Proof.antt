@@ -1,40 +1,32 @@
--- `levels::set_levels` meets its contract: the levels of the nodes so far are set, and the depth so far is the highest of the gates'.
+-- `levels::set_levels` meets its contract. The loop's invariant: what is left, done to the levels so far, gives what the whole was to give.
 use borrow.Author.Needs.{needs}
-use mathlib.Core.Path.{_≡_, ap, _∙_}
-use Prim.Native.Nat.{_+_, _-_, _≤_}
+use Prim.Native.Nat.{_-_, max}
+use mathlib.Core.Path.{_≡_, refl, sym, ap, _∙_}
 use native.Mathlib.Omega.{arith}
-use Rattle.majority.specs.Level.{levels as levelsOf, level as levelIn, highest, depth as depthOf}
-use Rattle.tables.specs.Sound.{tableIn}
-use Rattle.questions.specs.inner.Worths.{Holds, gateLevel}
-use Rattle.majority.proofs.Levels.{depth-more}
-use Rattle.tables.proofs.Sound.{sound-accepted, read-record}
-use Rattle.questions.proofs.Worths.{holds-more, reads-room, gate-level, gate-level-small, levels-begin}
+use borrow.Author.Tests.{lt-ltb, le-ltb}
+use Rattle.tables.specs.Bytes.{recordsOf}
+use Rattle.questions.specs.Levelled.{gateLevel, levelledBy, highestBy}
+use Rattle.questions.proofs.Levelled.{levelled-next, highest-next, levelled-end, highest-end}
 use Rattle.questions.proofs.levels.set_levels.Statement.{statement}
 use Rattle.questions.proofs.levels.set_levels.Tie as tie
 
 abbrev Inv-loop : tie.InvT-loop
-Inv-loop levels₀ s counts depth₀ i₀ levels depth i = (counts .inputs ≤ i) × (i ≤ counts .inputs + counts .gates) × Holds levelsOf (tableIn s counts) i levels × (depth ≡ highest (levelIn (tableIn s counts)) (counts .inputs + 1) (i - counts .inputs))
+Inv-loop levels₀ s first n highest₀ i₀ levels highest i = (max highest (highestBy (recordsOf s) i (n - i) levels) ≡ highestBy (recordsOf s) first (n - first) levels₀) × (levelledBy (recordsOf s) i (n - i) levels ≡ levelledBy (recordsOf s) first (n - first) levels₀)
 
 abbrev μ-loop : tie.MeasureT-loop
-μ-loop levels₀ s counts depth₀ i₀ levels depth i = counts .inputs + counts .gates - i
+μ-loop levels₀ s first n highest₀ i₀ levels highest i = n - i
+
+returns : tie.Need-returns Inv-loop μ-loop
+returns c = rw (lt-ltb 1056 (c .before .before .args .n) (c .if1 .taken)) (refl, refl)
 
 loop-holds : tie.Need-loop-holds Inv-loop μ-loop
-unfolding highest
-loop-holds c = let none : c .before .args .counts .inputs - c .before .args .counts .inputs ≡ 0 = omega arith in
-    (search needs, search needs, levels-begin (c .before .pre .0) (c .before .pre .1), rw none)
-
-add-if1 : tie.Need-add-if1 Inv-loop μ-loop
-add-if1 c = let f = c .before .before .before .pre .0 .fits in
-    omega arith
+loop-holds c = (omega arith, refl)
 
 record-at-requires : tie.Need-record-at-requires Inv-loop μ-loop
 record-at-requires c κs = search needs
 
 gate-level-requires : tie.Need-gate-level-requires Inv-loop μ-loop
-gate-level-requires c κs = let l = c .before .before .before .before in
-    let sound = l .before .before .pre .0 in
-    rw (c .record-at .ensures ∙ read-record sound (l .loop .i) (omega arith))
-    (reads-room sound (l .loop .i) (omega arith), gate-level-small sound (l .loop .i) (l .loop .inv .0) (c .before .before .if1 .taken) (l .loop .inv .2))
+gate-level-requires c κs = search needs
 
 add-levels : tie.Need-add-levels Inv-loop μ-loop
 add-levels c = search needs
@@ -43,8 +35,7 @@ mul-levels : tie.Need-mul-levels Inv-loop μ-loop
 mul-levels c = search needs
 
 element-write-levels : tie.Need-element-write-levels Inv-loop μ-loop
-element-write-levels c = let limits = sound-accepted (c .before .before .before .before .before .before .before .pre .0) .limits in
-    omega arith
+element-write-levels c = search needs
 
 higher-requires : tie.Need-higher-requires Inv-loop μ-loop
 higher-requires c κs = search needs
@@ -56,22 +47,15 @@ loop-less : tie.Need-loop-less Inv-loop μ-loop
 loop-less c = search needs
 
 loop-again : tie.Need-loop-again Inv-loop μ-loop
-loop-again c = let g = c .before in
-    let l = g .before .before .before .before .before in
-    let sound = l .before .before .pre .0 in
-    let limits = sound-accepted sound .limits in
-    let here = g .gate-level .ensures ∙ ap (gateLevel (l .loop .levels)) (g .before .record-at .ensures ∙ read-record sound (l .loop .i) (omega arith)) ∙ gate-level sound (l .loop .i) (l .loop .inv .0) (g .before .before .before .if1 .taken) (l .loop .inv .2) in
-    (search needs, search needs, holds-more _ _ (omega arith) here (l .loop .inv .2), depth-more _ _ _ _ _ _ (l .loop .inv .0) (l .loop .inv .3) here (c .higher .ensures))
+loop-again c = let l = c .before .before .before .before .before in
+    let level = c .before .gate-level .ensures ∙ ap (gateLevel (l .loop .levels)) (c .before .before .record-at .ensures) in
+    let test = c .before .before .before .before .loop-test .taken in
+    (rw (c .higher .ensures, level) (highest-next _ _ _ _ _ test) ∙ l .loop .inv .0, rw level (levelled-next _ _ _ _ test) ∙ l .loop .inv .1)
 
-wide-requires : tie.Need-wide-requires Inv-loop μ-loop
-wide-requires c κs = search needs
-
-returns : tie.Need-returns Inv-loop μ-loop
-unfolding depthOf
-returns c = let l = c .before .before .before in
-    let a = l .before .before .args in
-    let all : l .loop .i - a .counts .inputs ≡ a .counts .gates = omega arith in
-    c .wide .ensures ∙ l .loop .inv .3 ∙ rw all
+returns-2 : tie.Need-returns-2 Inv-loop μ-loop
+returns-2 c = let l = c .before in
+    let past = c .loop-test .left in
+    rw (le-ltb 1056 (l .before .before .before .args .n) (l .before .if1 .left)) (sym (highest-end _ _ _ _ _ past) ∙ l .loop .inv .0, sym (levelled-end _ _ _ _ past) ∙ l .loop .inv .1)
 
 pub set-levels-spec : {M : Type 1} → statement M
 set-levels-spec =
@@ -79,8 +63,8 @@ set-levels-spec =
     (tie.spec
     Inv-loop
     μ-loop
+    returns
     loop-holds
-    add-if1
     record-at-requires
     gate-level-requires
     add-levels
@@ -90,5 +74,4 @@ set-levels-spec =
     add-i
     loop-less
     loop-again
-    wide-requires
-    returns)
+    returns-2)
