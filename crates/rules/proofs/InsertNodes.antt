@@ -14,12 +14,12 @@ use Rattle.majority.specs.Edit.{insert}
 use Rattle.rules.specs.Rules.{plain}
 use Rattle.rules.specs.Kept.{raising, Near, NodesKept}
 use Rattle.majority.specs.declared.Record.{Record}
-use Rattle.majority.proofs.Nodes.{equals, edge-agrees, edge-related, node-induction, node-zero}
+use Rattle.majority.proofs.Nodes.{edge-agrees}
 use Rattle.majority.proofs.Formed.{below-more}
 use Rattle.rules.proofs.Placed.{Placed, placed, all-placed, gate-placed, Moved, edges-placed}
-use Rattle.rules.proofs.KeptByNodes.{counterpart-lower}
 use Rattle.rules.proofs.Edges.{plain-worth}
-use Rattle.rules.proofs.Raise.{raised-below, raised-from, raised-cases, raised-next, raise-below, raise-node, raise-parity}
+use Rattle.rules.proofs.Raise.{raised-below, raised-from, raised-cases, raise-below, raise-node}
+use Rattle.rules.proofs.RaiseNodes.{raised-nodes}
 use Rattle.rules.proofs.Insert.{insert-length, insert-old, insert-new, insert-cases}
 use Rattle.rules.proofs.GateNodes.{gateWorth, gate-agrees, GateOf, gate-node}
 
@@ -78,17 +78,7 @@ module _ {n m o g : ℕ} {rs : List Record} (is : GateOf n m o g rs) (news : Lis
   module _ {A : Type 0} (𝓜 : Meaning A) where
     -- an old node keeps its worth
     pub insert-nodes : (k : ℕ) → k ≤ n + m + o → worth 𝓜 rs k ≡ worth 𝓜 after (raised g c k)
-    insert-nodes =
-        node-induction (λ k. worth 𝓜 rs k ≡ worth 𝓜 after (raised g c k)) (n + m + o)
-        (rw (raised-below g c 0 some) (node-zero 𝓜 rs ∙ sym (node-zero 𝓜 after)))
-        (λ j h below.
-        rw (raised-next g c j some)
-        (counterpart-lower (is .formed) insert-formed 𝓜 (λ x y. x ≡ y) (equals 𝓜) (raise g c) j (raised (g - 1) c j) h (inside j h) (insert-old g news rs some fits j)
-        (λ l. sym (raised-below (g - 1) c j (omega (arith, is .from))))
-        (λ x l. edge-related 𝓜 (λ x y. x ≡ y) (equals 𝓜) _ _ x (raise g c x) (sym (raise-parity g c x)) (rw (raise-node g c x) (below (nodeOf x) l)))))
-      where
-        inside : (j : ℕ) → j < n + m + o → raised (g - 1) c j < n + (m + c) + o
-        inside j h = raised-cases (g - 1) c (λ k. k < n + (m + c) + o) j (λ l. omega arith) (λ l. omega arith)
+    insert-nodes = raised-nodes (is .formed) insert-formed g c (n + m + o) (is .from) (omega arith) (omega arith) (λ j h. insert-old g news rs some fits j) 𝓜
 
     pub insert-lower : (k : ℕ) → k < g → worth 𝓜 after k ≡ worth 𝓜 rs k
     insert-lower k h = ap (worth 𝓜 after) (sym (raised-below g c k h)) ∙ sym (insert-nodes k (omega (arith, is .upto)))

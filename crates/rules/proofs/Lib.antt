@@ -8,6 +8,7 @@ pub mod Redirect  -- redirecting keeps each node's value, and levels
 pub mod GateNodes  -- a gate by its node number: what it reads and is worth
 pub mod Become  -- a gate that becomes another of the same value
 pub mod Raise  -- the numbers of nodes and edges after gates were inserted
+pub mod RaiseNodes  -- nodes keep their worth where their records stand raised in another table
 pub mod Insert  -- the records after gates were inserted
 pub mod InsertNodes  -- inserting keeps each old node's worth
 -- each rule keeps
