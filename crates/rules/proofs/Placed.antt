@@ -40,6 +40,10 @@ pub record Moved (n m m′ j j′ : ℕ) : Type 0 where
 pub unmoved : {n m j : ℕ} → Moved n m m j j
 unmoved = record { an-input = λ h. h; from-gates = λ h. h; upto-gates = λ h. h; an-output = λ h. h }
 
+-- a record whose edges f keeps low enough
+pub edges-below : (f : ℕ → ℕ) {b b′ : ℕ} {r : Record} → ((x : ℕ) → nodeOf x < b → nodeOf (f x) < b′) → Below b r → Below b′ (edges f r)
+edges-below f lower low = record { first = lower _ (low .first); second = lower _ (low .second); third = lower _ (low .third) }
+
 module _ (f : ℕ → ℕ) (zero-stays : f 0 ≡ 0) where
   -- the records of a table whose edges changed
   pub edges-at : (rs : List Record) (j : ℕ) → recordAt (map (edges f) rs) j ≡ edges f (recordAt rs j)
@@ -52,9 +56,6 @@ module _ (f : ℕ → ℕ) (zero-stays : f 0 ≡ 0) where
     an-input = λ h. rw (p .an-input (moved .an-input h), zero-stays);
     a-gate = λ from upto.
         let w = p .a-gate (moved .from-gates from) (moved .upto-gates upto) in
-        let l1 = reads (r .e1) (omega (arith, w .1 .first)) in
-        let l2 = reads (r .e2) (omega (arith, w .1 .second)) in
-        let l3 = reads (r .e3) (omega (arith, w .1 .third)) in
-        (w .0, record { first = omega arith; second = omega arith; third = omega arith });
+        (w .0, edges-below f (λ x l. omega (arith, reads x (omega arith))) (w .1));
     an-output = λ h. let w = p .an-output (moved .an-output h) in (ap (edges f) (w .0) ∙ rw zero-stays, names _ (w .1));
   }

@@ -42,12 +42,24 @@ module _ (g e : ℕ) {n m o : ℕ} {rs : List Record} (formed : WellFormed n m o
         counterpart-lower formed redirect-formed 𝓜 Q 𝓠 (redirect g e) j j h h (redirected-at j) (λ l. refl)
         (redirect-upto g e 𝓜 dual Q 𝓠 then (worth 𝓜 rs) (worth 𝓜 (redirectAll g e rs)) lower here j below))
 
+    -- and each edge to what it becomes
+    redirect-edges : (x : ℕ) → nodeOf x ≤ n + m + o → Q (edgeWorth 𝓜 (worth 𝓜 rs) x) (edgeWorth 𝓜 (worth 𝓜 (redirectAll g e rs)) (redirect g e x))
+    redirect-edges = redirect-upto g e 𝓜 dual Q 𝓠 then (worth 𝓜 rs) (worth 𝓜 (redirectAll g e rs)) lower here (n + m + o) redirect-nodes
+
   -- under one assignment
   pub redirect-values : (a : ℕ) → value a rs g ≡ edgeWorth (values a) (value a rs) e → (k : ℕ) → k ≤ n + m + o → value a rs k ≡ value a (redirectAll g e rs) k
   redirect-values a = redirect-nodes (values a) (dual-values a) (λ x y. x ≡ y) (equals (values a)) (λ x y z p q. p ∙ q)
 
+  pub redirect-edge-values : (a : ℕ) → value a rs g ≡ edgeWorth (values a) (value a rs) e
+      → (x : ℕ) → nodeOf x ≤ n + m + o → edgeWorth (values a) (value a rs) x ≡ edgeWorth (values a) (value a (redirectAll g e rs)) (redirect g e x)
+  redirect-edge-values a = redirect-edges (values a) (dual-values a) (λ x y. x ≡ y) (equals (values a)) (λ x y z p q. p ∙ q)
+
   pub redirect-levels : edgeWorth levels (level rs) e ≤ level rs g → (k : ℕ) → k ≤ n + m + o → level (redirectAll g e rs) k ≤ level rs k + 0
   redirect-levels deep = redirect-nodes levels dual-levels (Rises 0) (rises 0) (λ x y z s t. omega arith) (omega arith)
+
+  pub redirect-edge-levels : edgeWorth levels (level rs) e ≤ level rs g
+      → (x : ℕ) → nodeOf x ≤ n + m + o → edgeWorth levels (level (redirectAll g e rs)) (redirect g e x) ≤ edgeWorth levels (level rs) x + 0
+  redirect-edge-levels deep = redirect-edges levels dual-levels (Rises 0) (rises 0) (λ x y z s t. omega arith) (omega arith)
 
   pub redirect-kept : ((a : ℕ) → value a rs g ≡ edgeWorth (values a) (value a rs) e) → edgeWorth levels (level rs) e ≤ level rs g
       → NodesKept 0 n m m o inPlace rs (redirectAll g e rs)
