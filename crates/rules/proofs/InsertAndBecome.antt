@@ -1,4 +1,4 @@
--- What rules 3 to 5 have in common: gates are inserted before g, and g becomes a gate that may read them too.
+-- What rules 3 to 5 and 9 have in common: gates are inserted before g, and g becomes a gate that may read them too.
 use Prim.Native.Nat.{ℕ, zero, suc, _+_, _≤_, _<_}
 use mathlib.Core.Path.{_≡_, _∙_}
 use mathlib.Core.List.{List, [], _∷_}

@@ -14,7 +14,7 @@ pub mod InsertNodes  -- inserting keeps each old node's worth
 -- each rule keeps
 pub mod Exchange  -- rule 1
 pub mod MajorityShare  -- rules 2 and 7
-pub mod InsertAndBecome  -- what rules 3 to 5 have in common
+pub mod InsertAndBecome  -- what rules 3 to 5 and 9 have in common
 pub mod Associativity  -- rule 3
 pub mod Outward  -- rule 4
 pub mod Inward  -- rule 5
@@ -24,6 +24,10 @@ pub mod KeptNodes  -- how many of the first nodes are kept
 pub mod CloseUp  -- closing up keeps a table
 pub mod Reached  -- the reached nodes are the least such set
 pub mod Sweep  -- sweep keeps
+-- error voters, rule 9
+pub mod Copies  -- what a copy of the gates up to g is worth
+pub mod Pair  -- the gate with two nodes among its edges in the same polarity
+pub mod Voter  -- error voters keep
 -- steps
 pub mod AcceptedStep  -- a step is accepted where none of its four tests refuses
 pub mod Steps  -- what an accepted step keeps, whatever its rule
