@@ -1,5 +1,5 @@
 -- What rewriting keeps, by the scripts one after another.
-use Prim.Native.Nat.{ℕ, suc, _-_, _/_}
+use Prim.Native.Nat.{ℕ, suc, _+_, _-_, _/_}
 use mathlib.Core.Path.{_≡_}
 use mathlib.Core.List.{List, [], _∷_}
 use native.Mathlib.Omega.{arith}
@@ -8,28 +8,30 @@ use Rattle.majority.specs.Check.{counts}
 use Rattle.tables.specs.Bytes.{tableOf}
 use Rattle.tables.specs.Calls.{checkOf}
 use Rattle.rewriting.specs.Script.{scriptRun}
-use Rattle.demands.specs.Demand3.{After, runScripts, Keeps, Demand3}
+use Rattle.rules.specs.Step.{deepensBy, votersBy}
+use Rattle.demands.specs.Demand3.{countedTaken, After, runScripts, Keeps, Demand3}
 use Rattle.demands.proofs.OneStep.{Between, between-same}
-use Rattle.demands.proofs.OneScript.{between-then, between-script}
+use Rattle.demands.proofs.OneScript.{between-sum, between-script}
 
 between-scripts : (scripts : List (List ℕ)) (xs : List ℕ) (used n m o : ℕ) → checkOf xs used ≡ accepted (counts n m o)
-    → Between (runScripts xs used scripts .deepened) n m o xs used (runScripts xs used scripts .bytes) (runScripts xs used scripts .used)
+    → Between (runScripts xs used scripts .deepened + runScripts xs used scripts .voted) n m o xs used (runScripts xs used scripts .bytes) (runScripts xs used scripts .used)
 unfolding runScripts
 between-scripts [] xs used n m o is = between-same xs used n m o is
 between-scripts (script ∷ scripts) xs used n m o is =
     let p = between-script xs used n m o is script in
     let run = scriptRun xs used script in
-    between-then p (between-scripts scripts (run .bytes) (run .used) n (p .gates) o (p .holds))
+    let rest = runScripts (run .bytes) (run .used) scripts in
+    between-sum (countedTaken deepensBy script run) (countedTaken votersBy script run) (rest .deepened) (rest .voted) p (between-scripts scripts (run .bytes) (run .used) n (p .gates) o (p .holds))
 
 -- what is kept between two buffers, phrase by phrase
-keeps : (n m o : ℕ) (xs : List ℕ) (used : ℕ) (after : After) → Between (after .deepened) n m o xs used (after .bytes) (after .used) → Keeps n m o (tableOf xs (used / 8)) after
+keeps : (n m o : ℕ) (xs : List ℕ) (used : ℕ) (after : After) → Between (after .deepened + after .voted) n m o xs used (after .bytes) (after .used) → Keeps n m o (tableOf xs (used / 8)) after
 keeps n m o xs used after b = record {
   gates = b .gates;
   holds = b .holds;
   formed = b .kept .formed;
   lower = λ g p q. let e : suc (g - 1) ≡ g = omega arith in rw e at (b .kept .formed .gates (g - 1) (omega arith) (omega arith) .1);
   outputs = b .kept .outputs;
-  deep = b .kept .deep;
+  deep = omega (arith, b .kept .deep);
 }
 
 pub demand-3 : Demand3

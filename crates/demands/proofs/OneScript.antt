@@ -1,4 +1,4 @@
--- A script takes a buffer that holds an accepted table to another such buffer; depth rises by at most one for each step of rules 3, 4 and 5 taken.
+-- A script takes a buffer that holds an accepted table to another such buffer; depth rises by at most one for each step of rules 3, 4, 5 and 9 taken.
 use Prim.Native.Nat.{ℕ, suc, _+_, _%_}
 use mathlib.Core.Path.{_≡_, refl}
 use mathlib.Core.Bool.{Bool, true, false, not}
@@ -10,32 +10,37 @@ use Rattle.refusals.specs.Why.{why}
 use Rattle.majority.specs.If.{if_then_else_}
 use Rattle.refusals.specs.Reply.{Reply, accepted, refused}
 use Rattle.majority.specs.Check.{counts}
+use Rattle.rules.specs.Step.{deepensBy, votersBy}
 use Rattle.rules.specs.declared.Step.{Step}
 use Rattle.rules.proofs.Kept.{kept-then}
 use Rattle.tables.specs.Calls.{checkOf}
 use Rattle.rewriting.specs.Calls.{stepOf, stepBytes}
 use Rattle.rewriting.specs.Script.{Run, stopped, stepsOf, byReply, runFrom, untaken, scriptRun}
-use Rattle.demands.specs.Demand3.{deepening, deepeningTaken}
+use Rattle.demands.specs.Demand3.{counted, countedTaken}
 use Rattle.demands.proofs.OneStep.{Between, between-same, between-step}
 
 -- one after another
 pub between-then : {δ ε n m o : ℕ} {xs ys zs : List ℕ} {a b c : ℕ} (p : Between δ n m o xs a ys b) → Between ε n (p .gates) o ys b zs c → Between (δ + ε) n m o xs a zs c
 between-then p q = record { gates = q .gates; holds = q .holds; kept = kept-then (p .kept) (q .kept) }
 
+-- by what is counted together and apart
+pub between-sum : (a b d e : ℕ) {n m o : ℕ} {xs ys zs : List ℕ} {u v w : ℕ} (p : Between (a + b) n m o xs u ys v) → Between (d + e) n (p .gates) o ys v zs w → Between (a + d + (b + e)) n m o xs u zs w
+between-sum a b d e p q = let same : a + b + (d + e) ≡ a + d + (b + e) = omega arith in rw same at (between-then p q)
+
 -- the run took the first `more` of the steps, where `taken` were taken before
 record Ran (taken n m o : ℕ) (xs : List ℕ) (used : ℕ) (steps : List Step) (run : Run) : Type 0 where
   more : ℕ
   adds : run .taken ≡ taken + more
-  between : Between (deepening (take more steps)) n m o xs used (run .bytes) (run .used)
+  between : Between (counted deepensBy (take more steps) + counted votersBy (take more steps)) n m o xs used (run .bytes) (run .used)
 
 -- no step is taken
 ran-none : (taken n m o : ℕ) (xs : List ℕ) (used : ℕ) (steps : List Step) (run : Run) → checkOf xs used ≡ accepted (counts n m o)
     → run .taken ≡ taken → run .bytes ≡ xs → run .used ≡ used → Ran taken n m o xs used steps run
-unfolding deepening
+unfolding counted
 ran-none taken n m o xs used steps run is t b u = record { more = 0; adds = omega arith; between = rw (b, u) (between-same xs used n m o is) }
 
 ran : (steps : List Step) (taken n m o : ℕ) (xs : List ℕ) (used : ℕ) → checkOf xs used ≡ accepted (counts n m o) → Ran taken n m o xs used steps (runFrom taken xs used steps)
-unfolding runFrom deepening
+unfolding runFrom counted
 ran [] taken n m o xs used is = ran-none taken n m o xs used [] _ is refl refl refl
 ran (s ∷ steps) taken n m o xs used is = go (stepOf xs used s) refl (λ m′ ys next is′. ran steps (taken + 1) n m′ o ys next is′)
   where
@@ -45,7 +50,7 @@ ran (s ∷ steps) taken n m o xs used is = go (stepOf xs used s) refl (λ m′ y
     go (accepted next) e rest =
         let p = between-step xs used n m o is s next e in
         let q = rest (p .gates) (stepBytes xs used s) next (p .holds) in
-        record { more = suc (q .more); adds = omega (arith, q .adds); between = between-then p (q .between) }
+        record { more = suc (q .more); adds = omega (arith, q .adds); between = between-sum (deepensBy s) (votersBy s) (counted deepensBy (take (q .more) steps)) (counted votersBy (take (q .more) steps)) p (q .between) }
     go (refused w) e rest = ran-none taken n m o xs used (s ∷ steps) _ is refl refl refl
 
 -- a script, whatever it is
@@ -58,5 +63,5 @@ module _ (xs : List ℕ) (used n m o : ℕ) (is : checkOf xs used ≡ accepted (
       go true = ran-none 0 n m o xs used (stepsOf script) _ is refl refl refl
       go false = ran (stepsOf script) 0 n m o xs used is
 
-  pub between-script : Between (deepeningTaken script (scriptRun xs used script)) n m o xs used (scriptRun xs used script .bytes) (scriptRun xs used script .used)
+  pub between-script : Between (countedTaken deepensBy script (scriptRun xs used script) + countedTaken votersBy script (scriptRun xs used script)) n m o xs used (scriptRun xs used script .bytes) (scriptRun xs used script .used)
   between-script = let e : scriptRun xs used script .taken ≡ whole .more = omega (arith, whole .adds) in rw e (whole .between)

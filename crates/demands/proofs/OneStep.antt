@@ -1,5 +1,5 @@
 -- One step takes a buffer that holds an accepted table to another such buffer, and keeps what it must between the two tables.
-use Prim.Native.Nat.{ℕ, _*_, _/_, _%_, _≤_}
+use Prim.Native.Nat.{ℕ, _+_, _*_, _/_, _%_, _≤_}
 use mathlib.Core.Path.{_≡_, refl, sym, _∙_}
 use mathlib.Core.List.{List}
 use native.Mathlib.Omega.{arith}
@@ -7,7 +7,7 @@ use borrow.Author.Tests.{le-ltb, eq-eqb}
 use lib.ListN.{length}
 use Rattle.refusals.specs.Reply.{Reply, accepted, refused, andThen}
 use Rattle.rules.specs.Kept.{Kept}
-use Rattle.rules.specs.Step.{step, deepensBy}
+use Rattle.rules.specs.Step.{step, deepensBy, votersBy}
 use Rattle.rules.specs.declared.Step.{Step}
 use Rattle.majority.specs.Check.{counts, checkRecords, count}
 use Rattle.majority.specs.declared.Record.{Record}
@@ -64,7 +64,7 @@ module _ (xs : List ℕ) (used n m o : ℕ) (is : checkOf xs used ≡ accepted (
     unfolding stepBytes
     bytes-are = rw table-is
 
-    instead-between : (t : List Record) → outcome xs used n m s ≡ accepted t → Between (deepensBy s) n m o xs used (holdingInstead t used xs) (8 * length t)
+    instead-between : (t : List Record) → outcome xs used n m s ≡ accepted t → Between (deepensBy s + votersBy s) n m o xs used (holdingInstead t used xs) (8 * length t)
     instead-between t e =
         let h : used ≤ length xs = accepted-records xs used _ is .1 in
         let fits : 8 * length t ≤ length xs = step-fits (was .formed) _ _ t e in
@@ -75,10 +75,10 @@ module _ (xs : List ℕ) (used n m o : ℕ) (is : checkOf xs used ≡ accepted (
         }
 
     -- a step that is accepted
-    pub between-step : (next : ℕ) → stepOf xs used s ≡ accepted next → Between (deepensBy s) n m o xs used (stepBytes xs used s) next
+    pub between-step : (next : ℕ) → stepOf xs used s ≡ accepted next → Between (deepensBy s + votersBy s) n m o xs used (stepBytes xs used s) next
     between-step next e = go (outcome xs used n m s) refl
       where
-        go : (reply : Reply (List Record)) → outcome xs used n m s ≡ reply → Between (deepensBy s) n m o xs used (stepBytes xs used s) next
+        go : (reply : Reply (List Record)) → outcome xs used n m s ≡ reply → Between (deepensBy s + votersBy s) n m o xs used (stepBytes xs used s) next
         go (accepted t) is′ =
             let same : 8 * length t ≡ next = let p : accepted (8 * length t) ≡ accepted next = sym (reply-is ∙ rw is′) ∙ e in cc in
             rw (bytes-are, is′, ← same) (instead-between t is′)

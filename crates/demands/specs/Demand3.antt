@@ -9,7 +9,7 @@ use Rattle.majority.specs.Level.{depth}
 use Rattle.refusals.specs.Reply.{Reply, accepted}
 use Rattle.majority.specs.Check.{counts}
 use Rattle.majority.specs.Edit.{nodeRecord}
-use Rattle.rules.specs.Step.{deepensBy}
+use Rattle.rules.specs.Step.{deepensBy, votersBy}
 use Rattle.rules.specs.declared.Step.{Step}
 use Rattle.translation.specs.Rm3.{WellFormed3, outputValue3, depth3}
 use Rattle.majority.specs.declared.Record.{Record}
@@ -18,20 +18,21 @@ use Rattle.tables.specs.Calls.{checkOf}
 use Rattle.rewriting.specs.Script.{Run, stepsOf, scriptRun}
 use Rattle.rm3.specs.Calls.{translateOf, translateBytes}
 
--- how many of these steps are of associativity or distributivity, rules 3, 4 and 5
-unfoldable pub deepening : List Step → ℕ
-deepening [] = 0
-deepening (s ∷ steps) = deepensBy s + deepening steps
+-- how many of these steps are of a kind: f of one is 1 where it is, else 0
+unfoldable pub counted : (Step → ℕ) → List Step → ℕ
+counted f [] = 0
+counted f (s ∷ steps) = f s + counted f steps
 
 -- how many of them a script took: it took the first `taken` of its steps
-abbrev pub deepeningTaken : List ℕ → Run → ℕ
-deepeningTaken script run = deepening (take (run .taken) (stepsOf script))
+abbrev pub countedTaken : (Step → ℕ) → List ℕ → Run → ℕ
+countedTaken f script run = counted f (take (run .taken) (stepsOf script))
 
--- what scripts leave: the bytes, the used length, and how many steps of rules 3, 4 and 5 they took
+-- what scripts leave: the bytes, the used length, how many steps of associativity and distributivity, rules 3, 4 and 5, they took, and apart from these how many voter steps, rule 9
 pub record After : Type 0 where
   pub bytes : List ℕ
   pub used : ℕ
   pub deepened : ℕ
+  pub voted : ℕ
 
 -- the table that they leave
 abbrev pub tableAfter : After → List Record
@@ -39,11 +40,16 @@ tableAfter after = tableOf (after .bytes) (after .used / 8)
 
 -- the scripts, one after another, on the buffer xs: each after the first has the bytes that the one before left and the used length that it replied, however it ended
 unfoldable pub runScripts : List ℕ → ℕ → List (List ℕ) → After
-runScripts xs used [] = record { bytes = xs; used = used; deepened = 0 }
+runScripts xs used [] = record { bytes = xs; used = used; deepened = 0; voted = 0 }
 runScripts xs used (script ∷ scripts) =
     let run = scriptRun xs used script in
     let rest = runScripts (run .bytes) (run .used) scripts in
-    record { bytes = rest .bytes; used = rest .used; deepened = deepeningTaken script run + rest .deepened }
+    record {
+      bytes = rest .bytes;
+      used = rest .used;
+      deepened = countedTaken deepensBy script run + rest .deepened;
+      voted = countedTaken votersBy script run + rest .voted;
+    }
 
 -- from a first table of n inputs, m gates and o outputs to what scripts leave
 pub record Keeps (n m o : ℕ) (first : List Record) (after : After) : Type 0 where
@@ -57,8 +63,8 @@ pub record Keeps (n m o : ℕ) (first : List Record) (after : After) : Type 0 wh
   pub lower : (g : ℕ) → n < g → g ≤ n + gates → Below g (nodeRecord (tableAfter after) g)
   -- each output has its first value under each assignment
   pub outputs : (a j : ℕ) → j < o → outputValue a n gates (tableAfter after) j ≡ outputValue a n m first j
-  -- depth has risen by at most one for each step of rules 3, 4 and 5 taken
-  pub deep : depth n gates (tableAfter after) ≤ depth n m first + after .deepened
+  -- depth has risen by at most one for each step of rules 3, 4 and 5 taken, and, counted apart, by at most one for each voter step taken
+  pub deep : depth n gates (tableAfter after) ≤ depth n m first + after .deepened + after .voted
 
 -- for every buffer, used length and scripts: where the first check accepts, all this is kept
 unfoldable pub Demand3 : Type 0

@@ -27,7 +27,7 @@ fn redirected_record(from: u16, to: u16, r: Record) -> Record
 }
 
 // An edge of the record names the node.
-fn names(k: u16, r: Record) -> bool
+pub fn names(k: u16, r: Record) -> bool
     ensures { λ b. ⌜ b ≡ namesNode k r ⌝ }
 {
     (node(r.e1) == k) | (node(r.e2) == k) | (node(r.e3) == k)

@@ -82,3 +82,9 @@ module _ {xs : List ℕ} {c : Counts} (sound : Sound xs c) where
       let limits = sound-accepted sound .limits in
       let all : nodes - c .inputs ≡ c .gates = omega arith in
       rw (le-ltb 1056 nodes (omega arith), all) (highest-set (c .gates) (c .inputs) (omega arith) (omega arith) (levels-begin sound fresh))
+
+  -- the levels of the nodes up to b, worked out in an array of zeros
+  pub levels-upto : {ls : List ℕ} → Fresh 0 ls → (b : ℕ) → b ≤ nodes → Holds levels table (c .inputs + (b - c .inputs)) (levelled (recordsOf xs) (c .inputs) b ls)
+  levels-upto fresh b h =
+      let limits = sound-accepted sound .limits in
+      rw (le-ltb 1056 b (omega arith)) (levels-set (b - c .inputs) (c .inputs) (omega arith) (omega arith) (levels-begin sound fresh))

@@ -12,7 +12,7 @@ use Rattle.majority.specs.Check.{count}
 use Rattle.rules.specs.Sweep.{sweep}
 use Rattle.rules.specs.Step.{ruleOf, saidRule, isSweep, fieldsFit, hasForm, inserted, rewritten, stepBy, step}
 use Rattle.rules.specs.declared.Rule.{Rule}
-use Rattle.rules.specs.declared.Rule.the-variants.{Exchange, Majority, Associativity, Outward, Inward, Inversion, Share, Sweep}
+use Rattle.rules.specs.declared.Rule.the-variants.{Exchange, Majority, Associativity, Outward, Inward, Inversion, Share, Sweep, Voter}
 use Rattle.rules.specs.declared.Step.{Step}
 use Rattle.rules.specs.declared.Named.{Named}
 use Rattle.rules.specs.declared.Named.the-variants.{Known, Unknown}
@@ -40,7 +40,7 @@ module _ {xs : List ℕ} {c : Counts} {rule : Rule} {g a b : ℕ} (fit : Fitting
   table = tableIn xs c
 
   abbrev after : List Record
-  after = rewritten table rule g a
+  after = rewritten (c .inputs) table rule g a b
 
   -- the step is taken
   fit-taken : Taken (length xs) (c .inputs) (c .gates) table rule g a b after
@@ -58,23 +58,23 @@ module _ {xs : List ℕ} {c : Counts} {rule : Rule} {g a b : ℕ} (fit : Fitting
   formed : WellFormed (c .inputs) (c .gates) (c .outputs) table
   formed = sound-accepted (fit .sound) .formed
 
-  fit-count : count 2 after ≡ gatesAfter (c .inputs) (c .gates) table rule
+  fit-count : count 2 after ≡ gatesAfter (c .inputs) (c .gates) table rule g
   fit-count = taken-count formed fit-taken
 
   fit-length : length after ≡ c .inputs + count 2 after + c .outputs
   fit-length = taken-nodes formed fit-taken .formed .whole
 
   -- by a rule other than sweep
-  pub rewritten-holding : {ys : List ℕ} (r : ℕ) → isSweep rule ≡ false → r ≡ c .gates + inserted rule → ys ≡ holding after xs → Rewritten xs c rule g a r ys
+  pub rewritten-holding : {ys : List ℕ} (r : ℕ) → isSweep rule ≡ false → r ≡ c .gates + inserted (c .inputs) rule g → ys ≡ holding after xs → Rewritten xs c rule g a b r ys
   rewritten-holding r other gates holds =
-      let more : count 2 after ≡ c .gates + inserted rule = fit-count ∙ rw other in
+      let more : count 2 after ≡ c .gates + inserted (c .inputs) rule g = fit-count ∙ rw other in
       record {
         gates = gates ∙ sym more;
         bytes = holds ∙ sym (instead-long after (usedBy c) xs (omega (arith, fit-length)));
       }
 
   -- by sweep
-  pub rewritten-swept : {ys : List ℕ} (r : ℕ) → after ≡ sweep table → r ≤ c .gates → Swept xs c r ys → Rewritten xs c rule g a r ys
+  pub rewritten-swept : {ys : List ℕ} (r : ℕ) → after ≡ sweep table → r ≤ c .gates → Swept xs c r ys → Rewritten xs c rule g a b r ys
   rewritten-swept r is fewer swept =
       let gates : r ≡ count 2 after = swept .left ∙ ap (count 2) (sym is) in
       record {
@@ -82,7 +82,7 @@ module _ {xs : List ℕ} {c : Counts} {rule : Rule} {g a b : ℕ} (fit : Fitting
         bytes = swept .bytes ∙ rw (← is) (sym (instead-short after (c .gates - r) (usedBy c) xs (omega (arith, fit-length))));
       }
 
-  pub applied-taken : {ys : List ℕ} (r : ℕ) → Rewritten xs c rule g a r ys → AppliedTo xs c (ruleIn xs c rule g a b) (AppliedTaken r) ys
+  pub applied-taken : {ys : List ℕ} (r : ℕ) → Rewritten xs c rule g a b r ys → AppliedTo xs c (ruleIn xs c rule g a b) (AppliedTaken r) ys
   applied-taken r done = record { reply = rw fit-step (ap accepted (done .gates)); bytes = rw fit-step (done .bytes) }
 
 pub applied-refused : {xs : List ℕ} {c : Counts} {made : Reply (List Record)} (r : Refusal) → made ≡ refused (whyOf r) → AppliedTo xs c made (AppliedRefused r) xs
@@ -99,16 +99,17 @@ module _ (xs : List ℕ) (c : Counts) (s : Step) (r : Named) (said : saidRule r 
   unknown-step is = rw (← said, is)
 
 -- the table that sweep makes
-pub swept-made : (rs : List Record) (rule : Rule) (g a : ℕ) → isSweep rule ≡ true → rewritten rs rule g a ≡ sweep rs
+pub swept-made : (n : ℕ) (rs : List Record) (rule : Rule) (g a b : ℕ) → isSweep rule ≡ true → rewritten n rs rule g a b ≡ sweep rs
 unfolding rewritten
-swept-made rs Exchange g a e = absurd (true≢false (sym e))
-swept-made rs Majority g a e = absurd (true≢false (sym e))
-swept-made rs Associativity g a e = absurd (true≢false (sym e))
-swept-made rs Outward g a e = absurd (true≢false (sym e))
-swept-made rs Inward g a e = absurd (true≢false (sym e))
-swept-made rs Inversion g a e = absurd (true≢false (sym e))
-swept-made rs Share g a e = absurd (true≢false (sym e))
-swept-made rs Sweep g a e = refl
+swept-made n rs Exchange g a b e = absurd (true≢false (sym e))
+swept-made n rs Majority g a b e = absurd (true≢false (sym e))
+swept-made n rs Associativity g a b e = absurd (true≢false (sym e))
+swept-made n rs Outward g a b e = absurd (true≢false (sym e))
+swept-made n rs Inward g a b e = absurd (true≢false (sym e))
+swept-made n rs Inversion g a b e = absurd (true≢false (sym e))
+swept-made n rs Share g a b e = absurd (true≢false (sym e))
+swept-made n rs Sweep g a b e = refl
+swept-made n rs Voter g a b e = absurd (true≢false (sym e))
 
 -- sweep leaves no more gates than there were
 pub swept-fewer : {xs ys : List ℕ} {c : Counts} {r : ℕ} → Sound xs c → Swept xs c r ys → r ≤ c .gates
@@ -125,26 +126,27 @@ module _ (bytes n m : ℕ) (rs : List Record) (rule : Rule) (g a b : ℕ) where
   refuse-8 h = rw h
 
   module _ (fields : fieldsFit n m rule g a b ≡ true) where
-    pub refuse-9 : hasForm n rs rule g a ≡ false → stepBy bytes n m rs rule g a b ≡ refused (why 9)
+    pub refuse-9 : hasForm n rs rule g a b ≡ false → stepBy bytes n m rs rule g a b ≡ refused (why 9)
     unfolding stepBy
     refuse-9 h = rw (fields, h)
 
-    module _ (form : hasForm n rs rule g a ≡ true) where
-      pub refuse-10 : 1024 < m + inserted rule → stepBy bytes n m rs rule g a b ≡ refused (why 10)
+    module _ (form : hasForm n rs rule g a b ≡ true) where
+      pub refuse-10 : 1024 < m + inserted n rule g → stepBy bytes n m rs rule g a b ≡ refused (why 10)
       unfolding stepBy
-      refuse-10 h = rw (fields, form, lt-ltb 1024 (m + inserted rule) h)
+      refuse-10 h = rw (fields, form, lt-ltb 1024 (m + inserted n rule g) h)
 
-      pub refuse-11 : m + inserted rule ≤ 1024 → bytes < 8 * (length rs + inserted rule) → stepBy bytes n m rs rule g a b ≡ refused (why 11)
+      pub refuse-11 : m + inserted n rule g ≤ 1024 → bytes < 8 * (length rs + inserted n rule g) → stepBy bytes n m rs rule g a b ≡ refused (why 11)
       unfolding stepBy
-      refuse-11 few h = rw (fields, form, le-ltb 1024 (m + inserted rule) few, lt-ltb bytes (8 * (length rs + inserted rule)) h)
+      refuse-11 few h = rw (fields, form, le-ltb 1024 (m + inserted n rule g) few, lt-ltb bytes (8 * (length rs + inserted n rule g)) h)
 
--- a rule inserts at most two gates
-pub few-more : (rule : Rule) → inserted rule ≤ 2
-few-more Exchange = omega arith
-few-more Majority = omega arith
-few-more Associativity = omega arith
-few-more Outward = omega arith
-few-more Inward = omega arith
-few-more Inversion = omega arith
-few-more Share = omega arith
-few-more Sweep = omega arith
+-- a rule inserts at most thrice as many gates as its number says, and two
+pub few-more : (n : ℕ) (rule : Rule) (g : ℕ) → inserted n rule g ≤ 3 * g + 2
+few-more n Exchange g = omega arith
+few-more n Majority g = omega arith
+few-more n Associativity g = omega arith
+few-more n Outward g = omega arith
+few-more n Inward g = omega arith
+few-more n Inversion g = omega arith
+few-more n Share g = omega arith
+few-more n Sweep g = omega arith
+few-more n Voter g = omega arith

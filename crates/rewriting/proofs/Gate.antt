@@ -1,6 +1,6 @@
 -- What a rule knows of its gate and of the nodes that it names.
 use Prim.Native.Nat.{ℕ, suc, _+_, _-_, _≤_, _<_}
-use mathlib.Core.Path.{_≡_, refl, ap, ap₂, _∙_}
+use mathlib.Core.Path.{_≡_, ap, _∙_}
 use mathlib.Core.Bool.{true, false}
 use mathlib.Core.List.{List}
 use native.Mathlib.Omega.{arith}
@@ -8,14 +8,13 @@ use lib.ListN.{length}
 use Rattle.majority.specs.Edge.{nodeOf}
 use Rattle.majority.specs.Table.{Below, WellFormed}
 use Rattle.majority.specs.Edit.{nodeRecord}
-use Rattle.rules.specs.Rules.{named, majorityForm, associativityForm, outwardForm, inwardForm, shareForm}
-use Rattle.rules.specs.Step.{isSweep, fieldsFit, hasForm}
+use Rattle.rules.specs.Rules.{named}
+use Rattle.rules.specs.Step.{isSweep, fieldsFit}
 use Rattle.rules.specs.declared.Rule.{Rule}
-use Rattle.rules.specs.declared.Rule.the-variants.{Exchange, Majority, Associativity, Outward, Inward, Inversion, Share, Sweep}
 use Rattle.majority.specs.declared.Record.{Record}
 use Rattle.majority.specs.declared.Counts.{Counts}
 use Rattle.majority.proofs.Formed.{reads-lower}
-use Rattle.rules.proofs.AcceptedStep.{gate-field, share-field}
+use Rattle.rules.proofs.AcceptedStep.{gate-field}
 use Rattle.tables.specs.Sound.{Sound, tableIn}
 use Rattle.tables.proofs.Decoded.{length-table}
 use Rattle.tables.proofs.Sound.{sound-accepted, read-record}
@@ -23,7 +22,7 @@ use Rattle.tables.specs.Bytes.{recordsOf}
 use Rattle.rewriting.specs.inner.Fitting.{AtGate, Fitting}
 
 -- the record that the code reads for a node of the table
-node-at : {xs : List ℕ} {c : Counts} → Sound xs c → (k : ℕ) → k ≤ c .inputs + c .gates → nodeRecord (recordsOf xs) k ≡ nodeRecord (tableIn xs c) k
+pub node-at : {xs : List ℕ} {c : Counts} → Sound xs c → (k : ℕ) → k ≤ c .inputs + c .gates → nodeRecord (recordsOf xs) k ≡ nodeRecord (tableIn xs c) k
 node-at {xs} {c} sound k h =
     let some = sound-accepted sound .limits .some in
     read-record sound (k - 1) (omega arith)
@@ -77,29 +76,3 @@ module _ {xs : List ℕ} {c : Counts} {g : ℕ} (at : AtGate xs c g) where
 
   pub third-at : named (recordsOf xs) (nodeRecord (recordsOf xs) g .e3) ≡ named table (nodeRecord table g .e3)
   third-at = named-at (λ r. r .e3) (gate-low .third)
-
--- the form that the code sees is that of the table
-module _ {xs : List ℕ} {c : Counts} (sound : Sound xs c) (g a b : ℕ) where
-  abbrev FormAt : Rule → Type 0
-  FormAt rule = hasForm (c .inputs) (recordsOf xs) rule g a ≡ hasForm (c .inputs) (tableIn xs c) rule g a
-
-  abbrev Fit : Rule → Type 0
-  Fit rule = fieldsFit (c .inputs) (c .gates) rule g a b ≡ true
-
-  pub form-at : (rule : Rule) → Fit rule → FormAt rule
-  unfolding hasForm
-  form-at Exchange fields = refl
-  form-at Majority fields = ap majorityForm (gate-at (at-gate sound Majority g a b fields refl))
-  form-at Associativity fields =
-      let at = at-gate sound Associativity g a b fields refl in
-      ap₂ (associativityForm (c .inputs)) (gate-at at) (third-at at)
-  form-at Outward fields = ap (outwardForm (c .inputs)) (gate-at (at-gate sound Outward g a b fields refl))
-  form-at Inward fields =
-      let at = at-gate sound Inward g a b fields refl in
-      λ d. inwardForm (c .inputs) (gate-at at d) (first-at at d) (second-at at d)
-  form-at Inversion fields = refl
-  form-at Share fields =
-      let at = at-gate sound Share g a b fields refl in
-      let low = share-field (c .inputs) (c .gates) g a b fields .1 in
-      ap₂ shareForm (gate-at at) (node-at sound a (omega (arith, at .upto)))
-  form-at Sweep fields = refl

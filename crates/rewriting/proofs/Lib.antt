@@ -2,6 +2,10 @@
 mod Gate  -- what a rule knows of its gate
 mod Edits  -- on an accepted table the edits of lent records are those of the rules
 mod RuleBytes  -- what the calls of a rule leave in the buffer
+-- voters
+mod CopiedGates  -- copying gates, from the last down
+mod VoterBytes  -- what room, three copies and the vote leave in the buffer
+mod PairSearch  -- the search for the gate that has a pair of nodes among its edges
 -- sweep
 mod Marks  -- the marks are those of the reached nodes
 mod NewNumbers  -- the numbers that sweep gives the nodes

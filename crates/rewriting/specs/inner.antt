@@ -4,3 +4,4 @@ pub mod Marks  -- the marks of sweep
 pub mod ClosedUp  -- how far sweep has closed up
 pub mod Swept  -- what sweep leaves
 pub mod Applied  -- what a step makes of a buffer whose table was checked
+pub mod Copied  -- what copying gates leaves in a buffer

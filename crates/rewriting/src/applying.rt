@@ -23,13 +23,13 @@ ghost use Rattle.rewriting.specs.Calls.{saidStep, stepOf, stepBytes};
 // Rewrites by a rule that fits; answers how many gates there are then.
 fn rewrite(s: &mut [u8], counts: Counts, rule: Rule, gate: u16, a: u16, b: u16) -> usize
     requires { ⌜ Fitting (now s) counts rule gate a b ⌝ }
-    ensures { λ r. ⌜ Rewritten (now (s .entry)) counts rule gate a r (now (s .exit)) ⌝ }
+    ensures { λ r. ⌜ Rewritten (now (s .entry)) counts rule gate a b r (now (s .exit)) ⌝ }
 {
     if is_sweep(rule) {
         return sweep(s, counts);
     }
     edit(s, counts, rule, gate, a, b);
-    counts.gates + inserted(rule)
+    counts.gates + inserted(counts.inputs, rule, gate)
 }
 
 // Applies a rule: refusals 8 to 11 in their order, or its edit.
@@ -40,10 +40,10 @@ fn apply(s: &mut [u8], counts: Counts, rule: Rule, gate: u16, a: u16, b: u16) ->
     if !fields_fit(counts, rule, gate, a, b) {
         return Applied::Refused(Refusal::Field);
     }
-    if !has_form(s, counts.inputs, rule, gate, a) {
+    if !has_form(s, counts, rule, gate, a, b) {
         return Applied::Refused(Refusal::Form);
     }
-    let more = inserted(rule);
+    let more = inserted(counts.inputs, rule, gate);
     if MOST_GATES < counts.gates + more {
         return Applied::Refused(Refusal::Gates);
     }

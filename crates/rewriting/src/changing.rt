@@ -2,6 +2,9 @@
 use crate::nodes::named_record;
 use crate::nodes::node_record;
 use crate::nodes::place;
+use crate::nodes::plain;
+use crate::nodes::records;
+use crate::voting::vote;
 use editing::insert;
 use editing::insert_two;
 use editing::redirect;
@@ -23,27 +26,11 @@ ghost use mathlib.Core.Path.{_≡_};
 ghost use mathlib.Core.Bool.{false};
 ghost use Prim.Native.Nat.{_+_, _≤_};
 ghost use Rattle.majority.specs.Edit.{redirectAll};
-ghost use Rattle.rules.specs.Rules.{plain as plainEdge, exchange as exchangeRule, associativity as associativityRule, outward as outwardRule, inward as inwardRule, inversion as inversionRule};
+ghost use Rattle.rules.specs.Rules.{exchange as exchangeRule, associativity as associativityRule, outward as outwardRule, inward as inwardRule, inversion as inversionRule};
 ghost use Rattle.rules.specs.Step.{isSweep, rewritten};
 ghost use Rattle.tables.specs.Sound.{tableIn};
 ghost use Rattle.tables.specs.Bytes.{holding};
 ghost use Rattle.rewriting.specs.inner.Fitting.{AtGate, Room, Fitting};
-
-// How many records a table has.
-fn records(counts: Counts) -> usize
-    requires { ⌜ counts .inputs + counts .gates + counts .outputs ≤ 1088 ⌝ }
-    ensures { λ r. ⌜ r ≡ counts .inputs + counts .gates + counts .outputs ⌝ }
-{
-    counts.inputs + counts.gates + counts.outputs
-}
-
-// The uninverted edge to a node.
-fn plain(k: u16) -> u16
-    requires { ⌜ k ≤ 1057 ⌝ }
-    ensures { λ r. ⌜ r ≡ plainEdge k ⌝ }
-{
-    2 * k
-}
 
 fn exchange(s: &mut [u8], counts: Counts, gate: u16, a: u16)
     requires { ⌜ AtGate (now s) counts gate ⌝ }
@@ -114,7 +101,7 @@ fn inversion(s: &mut [u8], counts: Counts, gate: u16)
 // Edits by a rule that fits, other than sweep.
 pub(crate) fn edit(s: &mut [u8], counts: Counts, rule: Rule, gate: u16, a: u16, b: u16)
     requires { ⌜ Fitting (now s) counts rule gate a b × (isSweep rule ≡ false) ⌝ }
-    ensures { λ _. ⌜ now (s .exit) ≡ holding (rewritten (tableIn (now (s .entry)) counts) rule gate a) (now (s .entry)) ⌝ }
+    ensures { λ _. ⌜ now (s .exit) ≡ holding (rewritten (counts .inputs) (tableIn (now (s .entry)) counts) rule gate a b) (now (s .entry)) ⌝ }
 {
     match rule {
         Rule::Exchange => exchange(s, counts, gate, a),
@@ -125,5 +112,6 @@ pub(crate) fn edit(s: &mut [u8], counts: Counts, rule: Rule, gate: u16, a: u16, 
         Rule::Inversion => inversion(s, counts, gate),
         Rule::Share => redirect_gate(s, counts, gate, plain(a)),
         Rule::Sweep => {}
+        Rule::Voter => vote(s, counts, gate, a, b),
     }
 }

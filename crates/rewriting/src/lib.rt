@@ -5,6 +5,7 @@ mod forms;
 mod nodes;
 mod running;
 mod sweeping;
+mod voting;
 
 use applying::take;
 use refusals::Refusal;

@@ -14,25 +14,25 @@ use Rattle.majority.proofs.Logic.{both, passed}
 use Rattle.rules.specs.Step.{ruleOf, isSweep, isGate, gateFits, fieldsFit, hasForm, inserted, rewritten, stepBy, step}
 use Rattle.rules.specs.declared.Step.{Step}
 use Rattle.rules.specs.declared.Rule.{Rule}
-use Rattle.rules.specs.declared.Rule.the-variants.{Share}
+use Rattle.rules.specs.declared.Rule.the-variants.{Share, Voter}
 
 -- what an accepted step of a rule is
 pub record Taken (bytes n m : ℕ) (rs : List Record) (rule : Rule) (g a b : ℕ) (rs′ : List Record) : Type 0 where
   pub fields : fieldsFit n m rule g a b ≡ true
-  pub form : hasForm n rs rule g a ≡ true
-  pub few : m + inserted rule ≤ 1024
-  pub room : 8 * (length rs + inserted rule) ≤ bytes
-  pub result : rs′ ≡ rewritten rs rule g a
+  pub form : hasForm n rs rule g a b ≡ true
+  pub few : m + inserted n rule g ≤ 1024
+  pub room : 8 * (length rs + inserted n rule g) ≤ bytes
+  pub result : rs′ ≡ rewritten n rs rule g a b
 
 module _ (bytes n m : ℕ) (rs : List Record) (rule : Rule) (g a b : ℕ) (rs′ : List Record) where
   step-taken : stepBy bytes n m rs rule g a b ≡ accepted rs′ → Taken bytes n m rs rule g a b rs′
   unfolding stepBy
   step-taken e =
       let s8 = passed (not (fieldsFit n m rule g a b)) (why 8) _ rs′ e in
-      let s9 = passed (not (hasForm n rs rule g a)) (why 9) _ rs′ (s8 .1) in
-      let s10 = passed (ltb 1024 (m + inserted rule)) (why 10) _ rs′ (s9 .1) in
-      let s11 = passed (ltb bytes (8 * (length rs + inserted rule))) (why 11) (accepted (rewritten rs rule g a)) rs′ (s10 .1) in
-      let same : accepted (rewritten rs rule g a) ≡ accepted rs′ = s11 .1 in
+      let s9 = passed (not (hasForm n rs rule g a b)) (why 9) _ rs′ (s8 .1) in
+      let s10 = passed (ltb 1024 (m + inserted n rule g)) (why 10) _ rs′ (s9 .1) in
+      let s11 = passed (ltb bytes (8 * (length rs + inserted n rule g))) (why 11) (accepted (rewritten n rs rule g a b)) rs′ (s10 .1) in
+      let same : accepted (rewritten n rs rule g a b) ≡ accepted rs′ = s11 .1 in
       record {
         fields = not-false _ (s8 .0);
         form = not-false _ (s9 .0);
@@ -44,7 +44,7 @@ module _ (bytes n m : ℕ) (rs : List Record) (rule : Rule) (g a b : ℕ) (rs′
   pub taken-step : Taken bytes n m rs rule g a b rs′ → stepBy bytes n m rs rule g a b ≡ accepted rs′
   unfolding stepBy
   taken-step t =
-      rw (t .fields, t .form, le-ltb 1024 (m + inserted rule) (t .few), le-ltb bytes (8 * (length rs + inserted rule)) (t .room)) (ap accepted (sym (t .result)))
+      rw (t .fields, t .form, le-ltb 1024 (m + inserted n rule g) (t .few), le-ltb bytes (8 * (length rs + inserted n rule g)) (t .room)) (ap accepted (sym (t .result)))
 
 -- what an accepted step is, whatever its rule
 pub record Ruled (bytes n m : ℕ) (rs : List Record) (s : Step) (rs′ : List Record) : Type 0 where
@@ -64,14 +64,21 @@ ruled bytes n m rs s rs′ e = go (ruleOf (s .rule)) refl e
 pub is-gate : (n m g : ℕ) → isGate n m g ≡ true → (n < g) × (g ≤ n + m)
 is-gate n m g h = let w = both (ltb n g) (leb g (n + m)) h in (ltb-true _ _ (w .0), leb-true _ _ (w .1))
 
--- what fitting fields say of g, for all rules but sweep, and of a, for share
+-- what fitting fields say of g, for all rules but sweep, of a, for share, and of a and b, for the voter
 module _ (n m g a b : ℕ) where
   pub gate-field : (rule : Rule) → isSweep rule ≡ false → fieldsFit n m rule g a b ≡ true → (n < g) × (g ≤ n + m)
   unfolding fieldsFit
-  gate-field rule other h = is-gate n m g (rw other at (both (gateFits n m rule g) _ (both _ (eqb b 0) h .0) .0))
+  gate-field rule other h = is-gate n m g (rw other at (both (gateFits n m rule g) _ h .0))
 
   pub share-field : fieldsFit n m Share g a b ≡ true → (n < a) × (a < g)
   unfolding fieldsFit
   share-field h =
-      let w = both (isGate n m a) (ltb a g) (both (isGate n m g) (isGate n m a && ltb a g) (both (isGate n m g && (isGate n m a && ltb a g)) (eqb b 0) h .0) .1) in
+      let w = both (isGate n m a) (ltb a g) (both (isGate n m a && ltb a g) (eqb b 0) (both (isGate n m g) (isGate n m a && ltb a g && eqb b 0) h .1) .0) in
       (is-gate n m a (w .0) .0, ltb-true _ _ (w .1))
+
+  pub voter-field : fieldsFit n m Voter g a b ≡ true → (0 < a) × (a < b) × (b < g)
+  unfolding fieldsFit
+  voter-field h =
+      let w = both (ltb 0 a && ltb a b) (ltb b g) (both (isGate n m g) (ltb 0 a && ltb a b && ltb b g) h .1) in
+      let v = both (ltb 0 a) (ltb a b) (w .0) in
+      (ltb-true _ _ (v .0), ltb-true _ _ (v .1), ltb-true _ _ (w .1))

@@ -52,11 +52,11 @@ module _ {n m o g : ℕ} {rs : List Record} (is : GateOf n m o g rs) where
   unfolding copied redirectAll
   copied-length copy = simp (length-map, length-take, length-drop) (omega (arith, is .formed .whole, is .from, is .upto))
 
-  copied-at : (copy : Copy) (i : ℕ) → i < g - n → recordAt (copied n g copy rs) i ≡ edges (own n g copy) (recordAt (table copy) (n + i))
+  copied-at : (copy : Copy) (i : ℕ) → i < g - n → recordAt (copied n g copy rs) i ≡ edges (own n g (copy .before)) (recordAt (table copy) (n + i))
   unfolding copied
   copied-at copy i h =
-      edges-at (own n g copy) (raise-below (suc n) _ 0 (omega arith)) (take (g - n) (drop n (table copy))) i
-      ∙ ap (edges (own n g copy)) (getD-take (g - n) (drop n (table copy)) i blank h ∙ getD-drop n (table copy) i blank)
+      edges-at (own n g (copy .before)) (raise-below (suc n) _ 0 (omega arith)) (take (g - n) (drop n (table copy))) i
+      ∙ ap (edges (own n g (copy .before))) (getD-take (g - n) (drop n (table copy)) i blank h ∙ getD-drop n (table copy) i blank)
 
   module _ {news : List Record} {copy : Copy} (here : CopyIn n g news rs copy) where
     -- by how much a copied gate stands higher
@@ -69,7 +69,7 @@ module _ {n m o g : ℕ} {rs : List Record} (is : GateOf n m o g rs) where
     room : copy .before + (g - n) ≤ length news
     room = omega (arith, here .begins, copied-length copy, simp length-append at (ap length (here .split)))
 
-    there : (i : ℕ) → i < g - n → recordAt news (copy .before + i) ≡ edges (raise (suc n) d) (recordAt (table copy) (n + i))
+    pub there : (i : ℕ) → i < g - n → recordAt news (copy .before + i) ≡ edges (raise (suc n) d) (recordAt (table copy) (n + i))
     there i h =
         ap (λ (k : ℕ). recordAt news (k + i)) (sym (here .begins))
         ∙ ap (λ (l : List Record). recordAt l (length (here .front) + i)) (here .split)
@@ -77,15 +77,19 @@ module _ {n m o g : ℕ} {rs : List Record} (is : GateOf n m o g rs) where
         ∙ List·getD-append (copied n g copy rs) (here .back) blank i (omega (arith, copied-length copy))
         ∙ copied-at copy i h
 
+    -- what gate i reads, before that is read in the copy's own numbers
+    pub copy-reads : (i : ℕ) → i < g - n → Below (suc (n + i)) (recordAt (table copy) (n + i))
+    copy-reads i h = formed .gates (n + i) (omega arith) (omega (arith, is .upto)) .1
+
     -- an edge to a node up to n + i, in the copy's own numbers
-    own-reads : (i x : ℕ) → nodeOf x ≤ n + i → nodeOf (own n g copy x) < g + (copy .before + i)
+    own-reads : (i x : ℕ) → nodeOf x ≤ n + i → nodeOf (own n g (copy .before) x) < g + (copy .before + i)
     own-reads i x h =
         rw (raise-node (suc n) d x) (raised-cases (suc n) d (λ k. k < g + (copy .before + i)) (nodeOf x) (λ l. omega (arith, is .from)) (λ l. omega (arith, is .from)))
 
     pub copy-gate : (i : ℕ) → i < g - n → (recordAt news (copy .before + i) .kind ≡ 2) × Below (g + (copy .before + i)) (recordAt news (copy .before + i))
     copy-gate i h =
         let w = formed .gates (n + i) (omega arith) (omega (arith, is .upto)) in
-        rw (there i h) (w .0, edges-below (own n g copy) (λ x l. own-reads i x (omega arith)) (w .1))
+        rw (there i h) (w .0, edges-below (own n g (copy .before)) (λ x l. own-reads i x (omega arith)) (w .1))
 
     -- what stands in the table for the plain edge to g
     abbrev top : ℕ

@@ -19,7 +19,7 @@ use Rattle.majority.proofs.MajorityLaws.{majority-equal, majority-last, majorit
 use Rattle.rules.proofs.KeptByNodes.{Each}
 
 -- the node and the polarity of an edge, and so its value
-edge-to-node : (p : Bool) (k : ℕ) → nodeOf (edgeTo p k) ≡ k
+pub edge-to-node : (p : Bool) (k : ℕ) → nodeOf (edgeTo p k) ≡ k
 unfolding flip
 edge-to-node true k = omega arith
 edge-to-node false k = omega arith

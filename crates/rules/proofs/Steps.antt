@@ -14,10 +14,10 @@ use Rattle.majority.specs.declared.Record.{Record}
 use Rattle.majority.proofs.Order.{order-counts}
 use Rattle.majority.proofs.Accepted.{Accepted, order-of}
 use Rattle.rules.specs.Kept.{movesOf, movesBy, NodesKept, Kept}
-use Rattle.rules.specs.Step.{isSweep, fieldsFit, hasForm, inserted, rewritten, step, deepens, deepensBy}
+use Rattle.rules.specs.Step.{isSweep, fieldsFit, hasForm, inserted, rewritten, step, deepens, deepensBy, voters, votersBy}
 use Rattle.rules.specs.declared.Step.{Step}
 use Rattle.rules.specs.declared.Rule.{Rule}
-use Rattle.rules.specs.declared.Rule.the-variants.{Exchange, Majority, Associativity, Outward, Inward, Inversion, Share, Sweep}
+use Rattle.rules.specs.declared.Rule.the-variants.{Exchange, Majority, Associativity, Outward, Inward, Inversion, Share, Sweep, Voter}
 use Rattle.rules.proofs.KeptByNodes.{kept-by-nodes}
 use Rattle.rules.proofs.GateNodes.{GateOf}
 use Rattle.rules.proofs.Exchange.{exchange-kept}
@@ -27,19 +27,24 @@ use Rattle.rules.proofs.Outward.{outward-kept}
 use Rattle.rules.proofs.Inward.{inward-kept}
 use Rattle.rules.proofs.Inversion.{inversion-kept}
 use Rattle.rules.proofs.Sweep.{left, left-fewer, sweep-kept}
-use Rattle.rules.proofs.AcceptedStep.{Taken, Ruled, ruled, gate-field, share-field}
+use Rattle.rules.proofs.Voter.{voter-kept}
+use Rattle.rules.proofs.AcceptedStep.{Taken, Ruled, ruled, gate-field, share-field, voter-field}
 
--- how many gates a step of this rule leaves, of m
-abbrev pub gatesAfter : ℕ → ℕ → List Record → Rule → ℕ
-gatesAfter n m rs rule = if isSweep rule then left n m rs else m + inserted rule
+-- how many gates a step of this rule on node g leaves, of m
+abbrev pub gatesAfter : ℕ → ℕ → List Record → Rule → ℕ → ℕ
+gatesAfter n m rs rule g = if isSweep rule then left n m rs else m + inserted n rule g
+
+-- by how much it may raise depth
+abbrev pub rises : Rule → ℕ
+rises rule = deepens rule + voters rule
 
 module _ {n m o : ℕ} {rs : List Record} (formed : WellFormed n m o rs) (g a b : ℕ) where
   gate-of : (rule : Rule) → isSweep rule ≡ false → fieldsFit n m rule g a b ≡ true → GateOf n m o g rs
   gate-of rule other fields = let w = gate-field n m g a b rule other fields in record { formed = formed; from = w .0; upto = w .1 }
 
-  -- the eight rules, one after another
-  by-rule : (rule : Rule) → fieldsFit n m rule g a b ≡ true → hasForm n rs rule g a ≡ true
-      → NodesKept (deepens rule) n m (gatesAfter n m rs rule) o (movesOf rs rule g) rs (rewritten rs rule g a)
+  -- the rules, one after another
+  by-rule : (rule : Rule) → fieldsFit n m rule g a b ≡ true → hasForm n rs rule g a b ≡ true
+      → NodesKept (rises rule) n m (gatesAfter n m rs rule g) o (movesOf n rs rule g) rs (rewritten n rs rule g a b)
   unfolding hasForm rewritten
   by-rule Exchange fields form = rw (add-zero m) (exchange-kept (gate-of Exchange refl fields) a)
   by-rule Majority fields form = rw (add-zero m) (majority-kept (gate-of Majority refl fields) form)
@@ -51,11 +56,12 @@ module _ {n m o : ℕ} {rs : List Record} (formed : WellFormed n m o rs) (g a b 
       let w = share-field n m g a b fields in
       rw (add-zero m) (share-kept (gate-of Share refl fields) a (w .0) (w .1) form)
   by-rule Sweep fields form = sweep-kept formed
+  by-rule Voter fields form = let w = voter-field n m g a b fields in voter-kept (gate-of Voter refl fields) a b (w .1) form
 
-few-gates : {n m o : ℕ} {rs : List Record} → WellFormed n m o rs → (rule : Rule) → gatesAfter n m rs rule ≤ m + inserted rule
-few-gates {n} {m} {rs = rs} formed rule = go (isSweep rule)
+few-gates : {n m o : ℕ} {rs : List Record} → WellFormed n m o rs → (rule : Rule) (g : ℕ) → gatesAfter n m rs rule g ≤ m + inserted n rule g
+few-gates {n} {m} {rs = rs} formed rule g = go (isSweep rule)
   where
-    go : (t : Bool) → (if t then left n m rs else m + inserted rule) ≤ m + inserted rule
+    go : (t : Bool) → (if t then left n m rs else m + inserted n rule g) ≤ m + inserted n rule g
     go true = omega (arith, left-fewer formed)
     go false = omega arith
 
@@ -65,30 +71,30 @@ gates-counted {n} {m} {o} {rs} formed = order-counts rs n m o (formed .whole) (o
 
 -- of a known rule
 module _ {n m o : ℕ} {rs : List Record} (formed : WellFormed n m o rs) {bytes : ℕ} {rule : Rule} {g a b : ℕ} {rs′ : List Record} (taken : Taken bytes n m rs rule g a b rs′) where
-  outcome : NodesKept (deepens rule) n m (gatesAfter n m rs rule) o (movesOf rs rule g) rs rs′
+  outcome : NodesKept (rises rule) n m (gatesAfter n m rs rule g) o (movesOf n rs rule g) rs rs′
   outcome = rw (taken .result) (by-rule formed g a b rule (taken .fields) (taken .form))
 
-  pub taken-count : count 2 rs′ ≡ gatesAfter n m rs rule
+  pub taken-count : count 2 rs′ ≡ gatesAfter n m rs rule g
   taken-count = gates-counted (outcome .formed)
 
-  pub taken-nodes : NodesKept (deepens rule) n m (count 2 rs′) o (movesOf rs rule g) rs rs′
+  pub taken-nodes : NodesKept (rises rule) n m (count 2 rs′) o (movesOf n rs rule g) rs rs′
   taken-nodes = rw taken-count outcome
 
   taken-gates : count 2 rs′ ≤ 1024
-  taken-gates = omega (arith, taken-count, few-gates formed rule, taken .few)
+  taken-gates = omega (arith, taken-count, few-gates formed rule g, taken .few)
 
   taken-fits : 8 * length rs′ ≤ bytes
-  taken-fits = omega (arith, outcome .formed .whole, formed .whole, few-gates formed rule, taken .room)
+  taken-fits = omega (arith, outcome .formed .whole, formed .whole, few-gates formed rule g, taken .room)
 
 module _ {n m o : ℕ} {rs : List Record} (formed : WellFormed n m o rs) (bytes : ℕ) (s : Step) (rs′ : List Record) (e : step bytes n m rs s ≡ accepted rs′) where
   by : Ruled bytes n m rs s rs′
   by = ruled bytes n m rs s rs′ e
 
   -- at the nodes, and so at the outputs
-  pub step-nodes : NodesKept (deepensBy s) n m (count 2 rs′) o (movesBy rs s) rs rs′
+  pub step-nodes : NodesKept (deepensBy s + votersBy s) n m (count 2 rs′) o (movesBy n rs s) rs rs′
   step-nodes = rw (by .known) (taken-nodes formed (by .taken))
 
-  pub step-kept : Kept (deepensBy s) n m (count 2 rs′) o rs rs′
+  pub step-kept : Kept (deepensBy s + votersBy s) n m (count 2 rs′) o rs rs′
   step-kept = kept-by-nodes formed step-nodes
 
   pub step-gates : count 2 rs′ ≤ 1024

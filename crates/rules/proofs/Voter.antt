@@ -111,15 +111,15 @@ module _ {n m o g : ℕ} {rs : List Record} (is : GateOf n m o g rs) (a b : ℕ)
       record { some = omega (arith, pair .from); lower = omega (arith, w .0); deep = omega (arith, w .1) }
 
   -- the three copies among the new gates
-  first : CopyIn n g news rs one
+  pub first-in : CopyIn n g news rs one
   unfolding flip
-  first = record { stands = for-b (omega arith); front = []; back = copied n g two rs ++ copied n g three rs; split = refl; begins = refl }
+  first-in = record { stands = for-b (omega arith); front = []; back = copied n g two rs ++ copied n g three rs; split = refl; begins = refl }
 
-  second : CopyIn n g news rs two
-  second = record { stands = for-c (pair .to-a); front = copied n g one rs; back = copied n g three rs; split = refl; begins = copied-length is one }
+  pub second-in : CopyIn n g news rs two
+  second-in = record { stands = for-c (pair .to-a); front = copied n g one rs; back = copied n g three rs; split = refl; begins = copied-length is one }
 
-  third : CopyIn n g news rs three
-  third = record {
+  pub third-in : CopyIn n g news rs three
+  third-in = record {
     stands = for-c (pair .to-b);
     front = copied n g one rs ++ copied n g two rs;
     back = [];
@@ -127,7 +127,7 @@ module _ {n m o g : ℕ} {rs : List Record} (is : GateOf n m o g rs) (a b : ℕ)
     begins = simp length-append (omega (arith, copied-length is one, copied-length is two));
   }
 
-  thrice : length news ≡ 3 * k
+  pub thrice : length news ≡ 3 * k
   thrice = simp length-append (omega (arith, copied-length is one, copied-length is two, copied-length is three))
 
   -- every new gate is in one of them
@@ -140,14 +140,14 @@ module _ {n m o g : ℕ} {rs : List Record} (is : GateOf n m o g rs) (a b : ℕ)
       go (no l) (no l′) = let e : 2 * k + (t - 2 * k) ≡ t = omega arith in subst P e (q3 (t - 2 * k) (omega (arith, thrice)))
 
   gates : GatesInOrder g news
-  gates = by-copy (λ t. (recordAt news t .kind ≡ 2) × Below (g + t) (recordAt news t)) (copy-gate is first) (copy-gate is second) (copy-gate is third)
+  gates = by-copy (λ t. (recordAt news t .kind ≡ 2) × Below (g + t) (recordAt news t)) (copy-gate is first-in) (copy-gate is second-in) (copy-gate is third-in)
 
   pub voter-kept : NodesKept 1 n m (m + 3 * k) o (raising g (3 * k)) rs (voter n g a b rs)
   unfolding voter
   voter-kept =
       subst (λ (c : ℕ). NodesKept 1 n m (m + c) o (raising g c) rs (become (g + c) (votes n g a b rs) after)) thrice
       (growth-kept is news gates (votes n g a b rs) refl
-      (record { first = root-reads is first; second = root-reads is second; third = root-reads is third })
-      (by-copy (λ t. Near 0 n m rs (level after (g + t))) (copy-near is first gates) (copy-near is second gates) (copy-near is third gates))
-      (λ i. sym (two-exact i _ _ _ _ (copy-exact is first gates i) (copy-exact is second gates i) (copy-exact is third gates i)))
-      (above-least _ _ _ _ (root-level is first gates) (root-level is second gates) (root-level is third gates)))
+      (record { first = root-reads is first-in; second = root-reads is second-in; third = root-reads is third-in })
+      (by-copy (λ t. Near 0 n m rs (level after (g + t))) (copy-near is first-in gates) (copy-near is second-in gates) (copy-near is third-in gates))
+      (λ i. sym (two-exact i _ _ _ _ (copy-exact is first-in gates i) (copy-exact is second-in gates i) (copy-exact is third-in gates i)))
+      (above-least _ _ _ _ (root-level is first-in gates) (root-level is second-in gates) (root-level is third-in gates)))

@@ -13,7 +13,7 @@ use Rattle.rules.specs.Sweep.{stays, kept}
 use Rattle.rules.specs.Step.{inserted, ruleOf}
 use Rattle.rules.specs.declared.Step.{Step}
 use Rattle.rules.specs.declared.Rule.{Rule}
-use Rattle.rules.specs.declared.Rule.the-variants.{Exchange, Majority, Associativity, Outward, Inward, Inversion, Share, Sweep}
+use Rattle.rules.specs.declared.Rule.the-variants.{Exchange, Majority, Associativity, Outward, Inward, Inversion, Share, Sweep, Voter}
 use Rattle.refusals.specs.Reply.{Reply, accepted, refused}
 use Rattle.majority.specs.declared.Record.{Record}
 
@@ -39,24 +39,25 @@ inverting g = record { stays = λ k. true; place = λ k. k; inverted = λ k. eqb
 abbrev pub closingUp : (ℕ → Bool) → Moves
 closingUp keep = record { stays = keep; place = kept keep 0; inverted = λ k. false }
 
--- where the nodes stand after a step of a rule on node g
-abbrev pub movesOf : List Record → Rule → ℕ → Moves
-movesOf rs Exchange g = inPlace
-movesOf rs Majority g = inPlace
-movesOf rs Associativity g = raising g (inserted Associativity)
-movesOf rs Outward g = raising g (inserted Outward)
-movesOf rs Inward g = raising g (inserted Inward)
-movesOf rs Inversion g = inverting g
-movesOf rs Share g = inPlace
-movesOf rs Sweep g = closingUp (stays rs)
+-- where the nodes stand after a step of a rule on node g, among n inputs
+abbrev pub movesOf : ℕ → List Record → Rule → ℕ → Moves
+movesOf n rs Exchange g = inPlace
+movesOf n rs Majority g = inPlace
+movesOf n rs Associativity g = raising g (inserted n Associativity g)
+movesOf n rs Outward g = raising g (inserted n Outward g)
+movesOf n rs Inward g = raising g (inserted n Inward g)
+movesOf n rs Inversion g = inverting g
+movesOf n rs Share g = inPlace
+movesOf n rs Sweep g = closingUp (stays rs)
+movesOf n rs Voter g = raising g (inserted n Voter g)
 
 -- after a step, of the rule that has its number; one of no rule is never taken
-abbrev pub movesAs : Reply Rule → List Record → ℕ → Moves
-movesAs (accepted rule) rs g = movesOf rs rule g
-movesAs (refused w) rs g = inPlace
+abbrev pub movesAs : Reply Rule → ℕ → List Record → ℕ → Moves
+movesAs (accepted rule) n rs g = movesOf n rs rule g
+movesAs (refused w) n rs g = inPlace
 
-abbrev pub movesBy : List Record → Step → Moves
-movesBy rs s = movesAs (ruleOf (s .rule)) rs (s .gate)
+abbrev pub movesBy : ℕ → List Record → Step → Moves
+movesBy n rs s = movesAs (ruleOf (s .rule)) n rs (s .gate)
 
 -- the value v, inverted where t is true
 abbrev pub turned : Bool → Bool → Bool

@@ -1,4 +1,4 @@
--- The eight rules (SPEC 5.3), each as the form that it asks for and the table that it makes. g is the node number of a gate.
+-- Rules 1 to 7 (SPEC 5.3), each as the form that it asks for and the table that it makes. g is the node number of a gate.
 use Prim.Native.Nat.{ℕ, _+_, _*_}
 use mathlib.Core.Bool.{Bool, not, _&&_, _||_}
 use mathlib.Core.List.{List, [], _∷_}

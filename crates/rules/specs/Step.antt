@@ -1,5 +1,5 @@
 -- One step (SPEC 5.1 and 5.4): refusals 7 to 11 in their order, or the table that the rule makes.
-use Prim.Native.Nat.{ℕ, _+_, _*_}
+use Prim.Native.Nat.{ℕ, _+_, _-_, _*_}
 use mathlib.Core.Bool.{Bool, true, false, not, _&&_, _||_}
 use mathlib.Core.List.{List}
 use lib.ListN.{length}
@@ -9,13 +9,14 @@ use Rattle.majority.specs.If.{if_then_else_}
 use Rattle.majority.specs.Edit.{nodeRecord}
 use Rattle.rules.specs.Rules.{named, exchange, majorityForm, majorityRule, associativityForm, associativity, outwardForm, outward, inwardForm, inward, inversion, shareForm, share}
 use Rattle.rules.specs.Sweep.{sweep}
+use Rattle.rules.specs.Voter.{voterForm, voter}
 use Rattle.refusals.specs.Reply.{Reply, accepted, refused, andThen}
 use Rattle.majority.specs.declared.Record.{Record}
 use Rattle.rules.specs.declared.Step.{Step}
 use Rattle.rules.specs.declared.Rule.{Rule}
-use Rattle.rules.specs.declared.Rule.the-variants.{Exchange, Majority, Associativity, Outward, Inward, Inversion, Share, Sweep}
+use Rattle.rules.specs.declared.Rule.the-variants.{Exchange, Majority, Associativity, Outward, Inward, Inversion, Share, Sweep, Voter}
 use Rattle.rules.specs.declared.Asked.{Asked}
-use Rattle.rules.specs.declared.Asked.the-variants.{Zero, OneOrTwo, LowerGate}
+use Rattle.rules.specs.declared.Asked.the-variants.{Zero, OneOrTwo, LowerGate, LowerPair}
 use Rattle.rules.specs.declared.Named.{Named}
 use Rattle.rules.specs.declared.Named.the-variants.{Known, Unknown}
 
@@ -23,7 +24,7 @@ use Rattle.rules.specs.declared.Named.the-variants.{Known, Unknown}
 abbrev pub stepWith : ℕ → ℕ → ℕ → ℕ → Step
 stepWith rule g a b = record { rule = rule; gate = g; a = a; b = b }
 
--- the rule of a number; 7 where it is not 1 to 8
+-- the rule of a number; 7 where it is not 1 to 9
 unfoldable pub ruleOf : ℕ → Reply Rule
 ruleOf k =
     if eqb k 1 then accepted Exchange
@@ -34,6 +35,7 @@ ruleOf k =
     else if eqb k 6 then accepted Inversion
     else if eqb k 7 then accepted Share
     else if eqb k 8 then accepted Sweep
+    else if eqb k 9 then accepted Voter
     else refused (why 7)
 
 -- the same for each case of the enum
@@ -51,6 +53,7 @@ isSweep Inward = false
 isSweep Inversion = false
 isSweep Share = false
 isSweep Sweep = true
+isSweep Voter = false
 
 -- among n inputs and m gates, node g is a gate
 abbrev pub isGate : ℕ → ℕ → ℕ → Bool
@@ -60,7 +63,7 @@ isGate n m g = ltb n g && leb g (n + m)
 abbrev pub gateFits : ℕ → ℕ → Rule → ℕ → Bool
 gateFits n m rule g = if isSweep rule then eqb g 0 else isGate n m g
 
--- what a rule asks of the field a: 1 or 2 for exchange, a gate below g for share, else 0
+-- what a rule asks of the fields a and b. a: 1 or 2 for exchange, a gate below g for share, else 0; and b 0. For the voter 0 < a < b < g
 abbrev pub askedOf : Rule → Asked
 askedOf Exchange = OneOrTwo
 askedOf Majority = Zero
@@ -70,48 +73,57 @@ askedOf Inward = Zero
 askedOf Inversion = Zero
 askedOf Share = LowerGate
 askedOf Sweep = Zero
+askedOf Voter = LowerPair
 
-abbrev pub aFits : ℕ → ℕ → Asked → ℕ → ℕ → Bool
-aFits n m Zero g a = eqb a 0
-aFits n m OneOrTwo g a = eqb a 1 || eqb a 2
-aFits n m LowerGate g a = isGate n m a && ltb a g
+abbrev pub pairFits : ℕ → ℕ → Asked → ℕ → ℕ → ℕ → Bool
+pairFits n m Zero g a b = eqb a 0 && eqb b 0
+pairFits n m OneOrTwo g a b = (eqb a 1 || eqb a 2) && eqb b 0
+pairFits n m LowerGate g a b = isGate n m a && ltb a g && eqb b 0
+pairFits n m LowerPair g a b = ltb 0 a && ltb a b && ltb b g
 
--- the fields are those that the rule allows; b is 0
+-- the fields are those that the rule allows
 unfoldable pub fieldsFit : ℕ → ℕ → Rule → ℕ → ℕ → ℕ → Bool
-fieldsFit n m rule g a b = gateFits n m rule g && aFits n m (askedOf rule) g a && eqb b 0
+fieldsFit n m rule g a b = gateFits n m rule g && pairFits n m (askedOf rule) g a b
 
 -- the gate has the rule's form
-unfoldable pub hasForm : ℕ → List Record → Rule → ℕ → ℕ → Bool
-hasForm n rs Exchange g a = true
-hasForm n rs Majority g a = majorityForm (nodeRecord rs g)
-hasForm n rs Associativity g a = associativityForm n (nodeRecord rs g) (named rs (nodeRecord rs g .e3))
-hasForm n rs Outward g a = outwardForm n (nodeRecord rs g)
-hasForm n rs Inward g a = inwardForm n (nodeRecord rs g) (named rs (nodeRecord rs g .e1)) (named rs (nodeRecord rs g .e2))
-hasForm n rs Inversion g a = true
-hasForm n rs Share g a = shareForm (nodeRecord rs g) (nodeRecord rs a)
-hasForm n rs Sweep g a = true
+unfoldable pub hasForm : ℕ → List Record → Rule → ℕ → ℕ → ℕ → Bool
+hasForm n rs Exchange g a b = true
+hasForm n rs Majority g a b = majorityForm (nodeRecord rs g)
+hasForm n rs Associativity g a b = associativityForm n (nodeRecord rs g) (named rs (nodeRecord rs g .e3))
+hasForm n rs Outward g a b = outwardForm n (nodeRecord rs g)
+hasForm n rs Inward g a b = inwardForm n (nodeRecord rs g) (named rs (nodeRecord rs g .e1)) (named rs (nodeRecord rs g .e2))
+hasForm n rs Inversion g a b = true
+hasForm n rs Share g a b = shareForm (nodeRecord rs g) (nodeRecord rs a)
+hasForm n rs Sweep g a b = true
+hasForm n rs Voter g a b = voterForm n g a b rs
 
--- how many gates a rule inserts
-abbrev pub inserted : Rule → ℕ
-inserted Exchange = 0
-inserted Majority = 0
-inserted Associativity = 1
-inserted Outward = 2
-inserted Inward = 1
-inserted Inversion = 0
-inserted Share = 0
-inserted Sweep = 0
+-- how many gates a rule inserts; the voter as many as it copies
+abbrev pub insertedOf : Rule → ℕ → ℕ
+insertedOf Exchange copied = 0
+insertedOf Majority copied = 0
+insertedOf Associativity copied = 1
+insertedOf Outward copied = 2
+insertedOf Inward copied = 1
+insertedOf Inversion copied = 0
+insertedOf Share copied = 0
+insertedOf Sweep copied = 0
+insertedOf Voter copied = copied
+
+-- a step on node g among n inputs; the gates from the first up to g are copied three times
+abbrev pub inserted : ℕ → Rule → ℕ → ℕ
+inserted n rule g = insertedOf rule (3 * (g - n))
 
 -- the table that a rule makes
-unfoldable pub rewritten : List Record → Rule → ℕ → ℕ → List Record
-rewritten rs Exchange g a = exchange a g rs
-rewritten rs Majority g a = majorityRule g rs
-rewritten rs Associativity g a = associativity g rs
-rewritten rs Outward g a = outward g rs
-rewritten rs Inward g a = inward g rs
-rewritten rs Inversion g a = inversion g rs
-rewritten rs Share g a = share a g rs
-rewritten rs Sweep g a = sweep rs
+unfoldable pub rewritten : ℕ → List Record → Rule → ℕ → ℕ → ℕ → List Record
+rewritten n rs Exchange g a b = exchange a g rs
+rewritten n rs Majority g a b = majorityRule g rs
+rewritten n rs Associativity g a b = associativity g rs
+rewritten n rs Outward g a b = outward g rs
+rewritten n rs Inward g a b = inward g rs
+rewritten n rs Inversion g a b = inversion g rs
+rewritten n rs Share g a b = share a g rs
+rewritten n rs Sweep g a b = sweep rs
+rewritten n rs Voter g a b = voter n g a b rs
 
 -- by how much a step of this rule may raise depth: associativity and distributivity by one, the others not at all
 abbrev pub deepens : Rule → ℕ
@@ -123,24 +135,40 @@ deepens Inward = 1
 deepens Inversion = 0
 deepens Share = 0
 deepens Sweep = 0
+deepens Voter = 0
+
+-- and by how much a voter step, which is counted apart, may: by one
+abbrev pub voters : Rule → ℕ
+voters Exchange = 0
+voters Majority = 0
+voters Associativity = 0
+voters Outward = 0
+voters Inward = 0
+voters Inversion = 0
+voters Share = 0
+voters Sweep = 0
+voters Voter = 1
 
 -- a step of a rule on a table of n inputs and m gates in a buffer of so many bytes
 unfoldable pub stepBy : ℕ → ℕ → ℕ → List Record → Rule → ℕ → ℕ → ℕ → Reply (List Record)
 stepBy bytes n m rs rule g a b =
     if not (fieldsFit n m rule g a b) then refused (why 8)
-    else if not (hasForm n rs rule g a) then refused (why 9)
-    else if ltb 1024 (m + inserted rule) then refused (why 10)
-    else if ltb bytes (8 * (length rs + inserted rule)) then refused (why 11)
-    else accepted (rewritten rs rule g a)
+    else if not (hasForm n rs rule g a b) then refused (why 9)
+    else if ltb 1024 (m + inserted n rule g) then refused (why 10)
+    else if ltb bytes (8 * (length rs + inserted n rule g)) then refused (why 11)
+    else accepted (rewritten n rs rule g a b)
 
 -- a step, of the rule that has its number
 unfoldable pub step : ℕ → ℕ → ℕ → List Record → Step → Reply (List Record)
 step bytes n m rs s = andThen (ruleOf (s .rule)) (λ rule. stepBy bytes n m rs rule (s .gate) (s .a) (s .b))
 
--- by how much a step may raise depth; one of no rule is never taken
-abbrev pub deepensAs : Reply Rule → ℕ
-deepensAs (accepted rule) = deepens rule
-deepensAs (refused w) = 0
+-- the same of a step, by the rule that has its number; one of no rule is never taken
+abbrev pub ruledBy : (Rule → ℕ) → Reply Rule → ℕ
+ruledBy f (accepted rule) = f rule
+ruledBy f (refused w) = 0
 
 abbrev pub deepensBy : Step → ℕ
-deepensBy s = deepensAs (ruleOf (s .rule))
+deepensBy s = ruledBy deepens (ruleOf (s .rule))
+
+abbrev pub votersBy : Step → ℕ
+votersBy s = ruledBy voters (ruleOf (s .rule))

@@ -49,16 +49,16 @@ pub record Copy : Type 0 where
   pub edge : ℕ
 
 -- an edge in a copy's own numbers: where it names a gate, it names that copy's, of which the first is node g + before
-abbrev pub own : ℕ → ℕ → Copy → ℕ → ℕ
-own n g copy x = raise (suc n) (g + copy .before - suc n) x
+abbrev pub own : ℕ → ℕ → ℕ → ℕ → ℕ
+own n g before x = raise (suc n) (g + before - suc n) x
 
 -- the gates of a copy: edges that name the node are replaced, their polarity carried on, and then read in the copy's own numbers
 unfoldable pub copied : ℕ → ℕ → Copy → List Record → List Record
-copied n g copy rs = map (edges (own n g copy)) (take (g - n) (drop n (redirectAll (copy .node) (copy .edge) rs)))
+copied n g copy rs = map (edges (own n g (copy .before))) (take (g - n) (drop n (redirectAll (copy .node) (copy .edge) rs)))
 
 -- its root: what stands there for the plain edge to g
 abbrev pub root : ℕ → ℕ → Copy → ℕ
-root n g copy = own n g copy (redirect (copy .node) (copy .edge) (plain g))
+root n g copy = own n g (copy .before) (redirect (copy .node) (copy .edge) (plain g))
 
 module _ (n g a b : ℕ) (rs : List Record) where
   -- in the first copy, edges naming b become inverted edges to a

@@ -4,7 +4,8 @@ use crate::Rule;
 use crate::is_sweep;
 use majority::Counts;
 ghost use mathlib.Core.Path.{_≡_};
-ghost use Rattle.rules.specs.Step.{isGate, gateFits, askedOf, aFits, fieldsFit, inserted as insertedBy};
+ghost use Rattle.rules.specs.Step.{isGate, gateFits, askedOf, pairFits, fieldsFit, insertedOf, inserted as insertedBy};
+ghost use Prim.Native.Nat.{_-_, _*_};
 
 // Node k is a gate of a table with these counts.
 fn is_gate(counts: Counts, k: u16) -> bool
@@ -27,7 +28,7 @@ fn gate_fits(counts: Counts, rule: Rule, gate: u16) -> bool
     is_gate(counts, gate)
 }
 
-// What the rule asks of the field a.
+// What the rule asks of the fields a and b.
 fn asked(rule: Rule) -> Asked
     ensures { λ r. ⌜ r ≡ askedOf rule ⌝ }
 {
@@ -40,17 +41,19 @@ fn asked(rule: Rule) -> Asked
         Rule::Inversion => Asked::Zero,
         Rule::Share => Asked::LowerGate,
         Rule::Sweep => Asked::Zero,
+        Rule::Voter => Asked::LowerPair,
     }
 }
 
-// The field a is what is asked.
-fn a_fits(counts: Counts, asked: Asked, gate: u16, a: u16) -> bool
-    ensures { λ r. ⌜ r ≡ aFits (counts .inputs) (counts .gates) asked gate a ⌝ }
+// The fields a and b are what is asked.
+fn pair_fits(counts: Counts, asked: Asked, gate: u16, a: u16, b: u16) -> bool
+    ensures { λ r. ⌜ r ≡ pairFits (counts .inputs) (counts .gates) asked gate a b ⌝ }
 {
     match asked {
-        Asked::Zero => a == 0,
-        Asked::OneOrTwo => (a == 1) | (a == 2),
-        Asked::LowerGate => is_gate(counts, a) & (a < gate),
+        Asked::Zero => (a == 0) & (b == 0),
+        Asked::OneOrTwo => ((a == 1) | (a == 2)) & (b == 0),
+        Asked::LowerGate => is_gate(counts, a) & (a < gate) & (b == 0),
+        Asked::LowerPair => (0 < a) & (a < b) & (b < gate),
     }
 }
 
@@ -58,12 +61,23 @@ fn a_fits(counts: Counts, asked: Asked, gate: u16, a: u16) -> bool
 pub fn fields_fit(counts: Counts, rule: Rule, gate: u16, a: u16, b: u16) -> bool
     ensures { λ r. ⌜ r ≡ fieldsFit (counts .inputs) (counts .gates) rule gate a b ⌝ }
 {
-    gate_fits(counts, rule, gate) & a_fits(counts, asked(rule), gate, a) & (b == 0)
+    gate_fits(counts, rule, gate) & pair_fits(counts, asked(rule), gate, a, b)
 }
 
-// How many gates the rule inserts.
-pub fn inserted(rule: Rule) -> usize
-    ensures { λ r. ⌜ r ≡ insertedBy rule ⌝ }
+// Thrice the gates from the first up to a node, among so many inputs.
+fn thrice_upto(inputs: usize, node: u16) -> usize
+    ensures { λ r. ⌜ r ≡ 3 * (node - inputs) ⌝ }
+{
+    let k = node as usize;
+    if inputs < k {
+        return 3 * (k - inputs);
+    }
+    0
+}
+
+// How many gates the rule inserts, where `copied` is thrice the gates from the first up to its own.
+fn inserted_of(rule: Rule, copied: usize) -> usize
+    ensures { λ r. ⌜ r ≡ insertedOf rule copied ⌝ }
 {
     match rule {
         Rule::Exchange => 0,
@@ -74,5 +88,13 @@ pub fn inserted(rule: Rule) -> usize
         Rule::Inversion => 0,
         Rule::Share => 0,
         Rule::Sweep => 0,
+        Rule::Voter => copied,
     }
+}
+
+// How many gates the rule inserts before a gate, among so many inputs.
+pub fn inserted(inputs: usize, rule: Rule, gate: u16) -> usize
+    ensures { λ r. ⌜ r ≡ insertedBy inputs rule gate ⌝ }
+{
+    inserted_of(rule, thrice_upto(inputs, gate))
 }

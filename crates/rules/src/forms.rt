@@ -4,7 +4,9 @@ use majority::flipped;
 use majority::inverted;
 use majority::node;
 ghost use mathlib.Core.Path.{_≡_};
+ghost use mathlib.Core.Bool.{_&&_};
 ghost use Rattle.rules.specs.Rules.{plainGate, majorityForm, associativityForm, outwardForm, inwardForm, shareForm};
+ghost use Rattle.rules.specs.Voter.{among};
 
 // Among so many inputs, the edge names a gate and is not inverted.
 pub fn plain_gate(inputs: usize, edge: u16) -> bool
@@ -43,4 +45,13 @@ pub fn share_form(r: Record, other: Record) -> bool
     ensures { λ b. ⌜ b ≡ shareForm r other ⌝ }
 {
     (other.e1 == r.e1) & (other.e2 == r.e2) & (other.e3 == r.e3)
+}
+
+// Both edges are among the record's.
+pub fn both_among(x: u16, y: u16, r: Record) -> bool
+    ensures { λ b. ⌜ b ≡ (among x r && among y r) ⌝ }
+{
+    let first = (r.e1 == x) | (r.e2 == x) | (r.e3 == x);
+    let second = (r.e1 == y) | (r.e2 == y) | (r.e3 == y);
+    first & second
 }

@@ -6,6 +6,7 @@ mod gates;
 pub use fields::fields_fit;
 pub use fields::inserted;
 pub use forms::associativity_form;
+pub use forms::both_among;
 pub use forms::inward_form;
 pub use forms::majority_form;
 pub use forms::outward_form;
@@ -42,13 +43,16 @@ pub enum Rule {
     Inversion,
     Share,
     Sweep,
+    Voter,
 }
 
-// What a rule may ask of the field a: to be 0, 1 or 2, or a gate below the gate field.
+// What a rule may ask of the fields a and b: a to be 0, 1 or 2, or a gate below the gate field, and b 0; or a and b to be nodes in rising order
+// below the gate field.
 pub enum Asked {
     Zero,
     OneOrTwo,
     LowerGate,
+    LowerPair,
 }
 
 // The rule that has a number, if any.
@@ -69,6 +73,7 @@ pub fn rule_of(number: u16) -> Named
         6 => Named::Known(Rule::Inversion),
         7 => Named::Known(Rule::Share),
         8 => Named::Known(Rule::Sweep),
+        9 => Named::Known(Rule::Voter),
         _ => Named::Unknown,
     }
 }
@@ -86,5 +91,6 @@ pub fn is_sweep(rule: Rule) -> bool
         Rule::Inversion => false,
         Rule::Share => false,
         Rule::Sweep => true,
+        Rule::Voter => false,
     }
 }

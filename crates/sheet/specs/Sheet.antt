@@ -23,7 +23,7 @@ pub data Question : Type 0 where
   evaluate : List Record → List ℕ → Question
   -- what are its size and depth?
   report : List Record → Question
-  -- what do these steps make of it, in a buffer that has room for two gates more?
+  -- what do these steps make of it, in a buffer that has room for fifteen gates more?
   run : List Record → List Record → Question
   -- what is its RM3 table, in a buffer with room for the longest?
   translate : List Record → Question
@@ -62,7 +62,7 @@ abbrev pub answerTo : Question → Answer
 answerTo (check xs used) = checkAnswer (checkOf xs used)
 answerTo (evaluate rs assignments) = replies (map (evaluateOf (encode rs) (8 * length rs)) assignments)
 answerTo (report rs) = sizeAnswer (reportOf (encode rs) (8 * length rs))
-answerTo (run rs steps) = runAnswer (scriptRun (encode rs ++ replicate 16 0) (8 * length rs) (encode steps))
+answerTo (run rs steps) = runAnswer (scriptRun (encode rs ++ replicate 120 0) (8 * length rs) (encode steps))
 answerTo (translate rs) = rm3Answer (rm3Of (encode rs) (8 * length rs) 25344)
 
 pub record Example : Type 0 where
@@ -119,6 +119,34 @@ swept = on 8 0
 abbrev pub P8 : List Record
 P8 = input ∷ input ∷ input ∷ gate 2 4 6 ∷ gate 2 4 7 ∷ gate 9 10 6 ∷ output 12 ∷ output 8 ∷ []
 
+-- a voter step on gate g, with the nodes a and b
+abbrev pub voting : ℕ → ℕ → ℕ → Record
+voting g a b = record { kind = 9; e1 = g; e2 = a; e3 = b }
+
+-- two gates, a gate that reads both inverted, and one above it
+abbrev pub P12 : List Record
+P12 = input ∷ input ∷ gate 0 2 4 ∷ gate 1 2 4 ∷ gate 7 9 2 ∷ gate 11 8 4 ∷ output 12 ∷ output 9 ∷ []
+
+abbrev pub P12voted : List Record
+P12voted =
+    input ∷ input ∷ gate 0 2 4 ∷ gate 1 2 4 ∷ gate 7 9 2
+    ∷ gate 0 2 4 ∷ gate 1 2 4 ∷ gate 13 12 2 ∷ gate 17 13 4
+    ∷ gate 0 2 4 ∷ gate 1 2 4 ∷ gate 21 23 2 ∷ gate 20 22 4
+    ∷ gate 0 2 4 ∷ gate 1 2 4 ∷ gate 29 31 2 ∷ gate 30 30 4
+    ∷ gate 18 26 34 ∷ output 36 ∷ output 9 ∷ []
+
+-- the exclusive or of two gates that have both inputs 1 and 2: what holds of one of them at a time
+abbrev pub P13 : List Record
+P13 = input ∷ input ∷ input ∷ input ∷ gate 2 4 6 ∷ gate 2 4 8 ∷ gate 0 10 12 ∷ gate 1 10 12 ∷ gate 0 15 16 ∷ output 18 ∷ []
+
+abbrev pub P13voted : List Record
+P13voted =
+    input ∷ input ∷ input ∷ input ∷ gate 2 4 6 ∷ gate 2 4 8 ∷ gate 0 10 12 ∷ gate 1 10 12
+    ∷ gate 2 3 6 ∷ gate 2 3 8 ∷ gate 0 18 20 ∷ gate 1 18 20 ∷ gate 0 23 24
+    ∷ gate 2 4 6 ∷ gate 2 4 8 ∷ gate 0 2 30 ∷ gate 1 2 30 ∷ gate 0 33 34
+    ∷ gate 2 4 6 ∷ gate 2 4 8 ∷ gate 0 4 40 ∷ gate 1 4 40 ∷ gate 0 43 44
+    ∷ gate 26 36 46 ∷ output 48 ∷ []
+
 abbrev pub sheet : List Example
 sheet =
     whole P1 ⟶ counts 2 1 1
@@ -142,4 +170,14 @@ sheet =
     -- P9: an empty table. P10: 12 bytes
     ∷ whole [] ⟶ refusal (why 3)
     ∷ check (replicate 12 0) 12 ⟶ refusal (why 1)
+    -- P11: a voter on the gate of P1 itself
+    ∷ run P1 (voting 3 1 2 ∷ []) ⟶ leaves 1 finished (input ∷ input ∷ gate 0 2 3 ∷ gate 0 2 4 ∷ gate 0 2 4 ∷ gate 6 2 4 ∷ output 12 ∷ [])
+    ∷ evaluate P12 upTo3 ⟶ outputs (2 ∷ 0 ∷ 1 ∷ 1 ∷ [])
+    ∷ run P12 (voting 6 3 4 ∷ []) ⟶ leaves 1 finished P12voted
+    ∷ evaluate P12voted upTo3 ⟶ outputs (2 ∷ 0 ∷ 1 ∷ 1 ∷ [])
+    -- under the assignment 6 inputs 1 to 4 are 0, 1, 1, 0
+    ∷ evaluate P13 (6 ∷ []) ⟶ outputs (1 ∷ [])
+    ∷ run P13 (voting 9 1 2 ∷ []) ⟶ leaves 1 finished P13voted
+    ∷ evaluate P13voted (6 ∷ []) ⟶ outputs (1 ∷ [])
+    ∷ report P13voted ⟶ size 20 4
     ∷ []

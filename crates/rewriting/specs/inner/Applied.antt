@@ -21,9 +21,9 @@ abbrev pub usedBy : Counts → ℕ
 usedBy c = 8 * (c .inputs + c .gates + c .outputs)
 
 -- a rule that fits leaves its table in ys, with r gates
-pub record Rewritten (xs : List ℕ) (c : Counts) (rule : Rule) (g a r : ℕ) (ys : List ℕ) : Type 0 where
-  pub gates : r ≡ count 2 (rewritten (tableIn xs c) rule g a)
-  pub bytes : ys ≡ holdingInstead (rewritten (tableIn xs c) rule g a) (usedBy c) xs
+pub record Rewritten (xs : List ℕ) (c : Counts) (rule : Rule) (g a b r : ℕ) (ys : List ℕ) : Type 0 where
+  pub gates : r ≡ count 2 (rewritten (c .inputs) (tableIn xs c) rule g a b)
+  pub bytes : ys ≡ holdingInstead (rewritten (c .inputs) (tableIn xs c) rule g a b) (usedBy c) xs
 
 -- the table that a rule makes of the one with these counts, or the refusal
 abbrev pub ruleIn : List ℕ → Counts → Rule → ℕ → ℕ → ℕ → Reply (List Record)

@@ -17,7 +17,7 @@ same-length : tie.Need-same-length
 same-length c = search needs
 
 returns : tie.Need-returns
-returns c = rewritten-swept (c .before .before .before .before .before .before .before .pre) _ (swept-made _ _ _ _ (sym (c .before .before .before .before .before .is-sweep .ensures) ∙ c .before .before .before .before .if1 .taken)) (swept-fewer (c .before .before .before .before .before .before .before .pre .sound) (c .before .before .sweep .ensures)) (c .before .before .sweep .ensures)
+returns c = rewritten-swept (c .before .before .before .before .before .before .before .pre) _ (swept-made _ _ _ _ _ _ (sym (c .before .before .before .before .before .is-sweep .ensures) ∙ c .before .before .before .before .if1 .taken)) (swept-fewer (c .before .before .before .before .before .before .before .pre .sound) (c .before .before .sweep .ensures)) (c .before .before .sweep .ensures)
 
 edit-requires : tie.Need-edit-requires
 edit-requires c κs = (c .before .before .before .before .pre, sym (c .before .before .is-sweep .ensures) ∙ c .before .if1 .left)

@@ -4,8 +4,8 @@ use mathlib.Core.Path.{_∙_}
 use mathlib.Core.Bool.{true≢false}
 use native.Mathlib.Omega.{arith}
 use Rattle.rules.specs.Rules.{majorityRule, share}
-use Rattle.rules.specs.Step.{rewritten}
-use Rattle.rules.proofs.AcceptedStep.{share-field}
+use Rattle.rules.specs.Step.{hasForm, rewritten}
+use Rattle.rules.proofs.AcceptedStep.{share-field, voter-field}
 use Rattle.rewriting.proofs.Gate.{fit-gate, at-node, gate-at}
 use Rattle.rewriting.proofs.changing.edit.Statement.{statement}
 use Rattle.rewriting.proofs.changing.edit.Tie as tie
@@ -66,6 +66,16 @@ redirect-gate-requires-2 c κs = fit-gate (c .before .before .before .before .be
 enum-told-8 : tie.Need-enum-told-8
 enum-told-8 c = search needs
 
+enum-told-9 : tie.Need-enum-told-9
+enum-told-9 c = search needs
+
+vote-requires : tie.Need-vote-requires
+unfolding hasForm
+vote-requires c κs = let fit = c .before .before .before .before .pre .0 in
+    let told = c .before .enum-told9 .given .1 in
+    let w = voter-field _ _ _ _ _ (rw told at (fit .fields)) in
+    record { at = fit-gate fit (c .before .before .before .before .pre .1); order = w .1; below = w .2; form = rw told at (fit .form); few = rw told at (fit .few); room = rw told at (fit .room) }
+
 same-length : tie.Need-same-length
 same-length c = search needs
 
@@ -119,6 +129,13 @@ returns-7 c = rw (c .before .before .before .before .before .enum-told7 .given .
 returns-8 : tie.Need-returns-8
 returns-8 c = absurd (true≢false (rw (c .enum-told8 .given .1) at (c .before .before .before .pre .1)))
 
+same-length-8 : tie.Need-same-length-8
+same-length-8 c = search needs
+
+returns-9 : tie.Need-returns-9
+unfolding rewritten
+returns-9 c = rw (c .before .before .before .before .enum-told9 .given .1) (c .before .before .vote .ensures)
+
 pub edit-spec : {M : Type 1} → statement M
 edit-spec =
     tie.close
@@ -141,6 +158,8 @@ edit-spec =
     plain-requires
     redirect-gate-requires-2
     enum-told-8
+    enum-told-9
+    vote-requires
     same-length
     returns
     same-length-2
@@ -155,4 +174,6 @@ edit-spec =
     returns-6
     same-length-7
     returns-7
-    returns-8)
+    returns-8
+    same-length-8
+    returns-9)

@@ -1,7 +1,11 @@
 -- `forms::has_form` meets its contract: each arm is one case of the definition.
 use borrow.Author.Needs.{needs}
-use mathlib.Core.Path.{_∙_}
+use mathlib.Core.Path.{refl, _∙_}
+use native.Mathlib.Omega.{arith}
 use Rattle.rules.specs.Step.{hasForm}
+use Rattle.rules.specs.declared.Rule.the-variants.{Majority, Associativity, Outward, Inward, Share, Voter}
+use Rattle.rules.proofs.AcceptedStep.{share-field, voter-field}
+use Rattle.rewriting.proofs.Gate.{at-gate, node-at, gate-at, first-at, second-at, third-at}
 use Rattle.rewriting.proofs.forms.has_form.Statement.{statement}
 use Rattle.rewriting.proofs.forms.has_form.Tie as tie
 
@@ -59,25 +63,37 @@ share-form-requires c κs = search needs
 enum-told-8 : tie.Need-enum-told-8
 enum-told-8 c = search needs
 
+enum-told-9 : tie.Need-enum-told-9
+enum-told-9 c = search needs
+
+voter-form-requires : tie.Need-voter-form-requires
+voter-form-requires c κs = let fields = rw (c .enum-told9 .given .1) at (c .before .before .before .before .pre .1) in
+    let w = voter-field _ _ _ _ _ fields in
+    (at-gate (c .before .before .before .before .pre .0) Voter _ _ _ fields refl, w .1, w .2)
+
 returns : tie.Need-returns
 unfolding hasForm
 returns c = rw (c .enum-told .given .1)
 
 returns-2 : tie.Need-returns-2
 unfolding hasForm
-returns-2 c = rw (c .before .enum-told2 .given .1) (c .majority-form .ensures ∙ rw (c .before .before .before .node-record .ensures))
+returns-2 c = let at = at-gate (c .before .before .before .before .before .pre .0) Majority _ _ _ (rw (c .before .enum-told2 .given .1) at (c .before .before .before .before .before .pre .1)) refl in
+    rw (c .before .enum-told2 .given .1) (c .majority-form .ensures ∙ rw (c .before .before .before .node-record .ensures, gate-at at))
 
 returns-3 : tie.Need-returns-3
 unfolding hasForm
-returns-3 c = rw (c .before .before .enum-told3 .given .1) (c .associativity-form .ensures ∙ rw (c .before .named-record .ensures, c .before .before .before .before .node-record .ensures))
+returns-3 c = let at = at-gate (c .before .before .before .before .before .before .pre .0) Associativity _ _ _ (rw (c .before .before .enum-told3 .given .1) at (c .before .before .before .before .before .before .pre .1)) refl in
+    rw (c .before .before .enum-told3 .given .1) (c .associativity-form .ensures ∙ rw (c .before .named-record .ensures, c .before .before .before .before .node-record .ensures, third-at at, gate-at at))
 
 returns-4 : tie.Need-returns-4
 unfolding hasForm
-returns-4 c = rw (c .before .enum-told4 .given .1) (c .outward-form .ensures ∙ rw (c .before .before .before .node-record .ensures))
+returns-4 c = let at = at-gate (c .before .before .before .before .before .pre .0) Outward _ _ _ (rw (c .before .enum-told4 .given .1) at (c .before .before .before .before .before .pre .1)) refl in
+    rw (c .before .enum-told4 .given .1) (c .outward-form .ensures ∙ rw (c .before .before .before .node-record .ensures, gate-at at))
 
 returns-5 : tie.Need-returns-5
 unfolding hasForm
-returns-5 c = rw (c .before .before .before .enum-told5 .given .1) (c .inward-form .ensures ∙ rw (c .before .before .named-record2 .ensures, c .before .named-record3 .ensures, c .before .before .before .before .before .node-record .ensures))
+returns-5 c = let at = at-gate (c .before .before .before .before .before .before .before .pre .0) Inward _ _ _ (rw (c .before .before .before .enum-told5 .given .1) at (c .before .before .before .before .before .before .before .pre .1)) refl in
+    rw (c .before .before .before .enum-told5 .given .1) (c .inward-form .ensures ∙ rw (c .before .before .named-record2 .ensures, c .before .named-record3 .ensures, c .before .before .before .before .before .node-record .ensures, first-at at, second-at at, gate-at at))
 
 returns-6 : tie.Need-returns-6
 unfolding hasForm
@@ -85,11 +101,18 @@ returns-6 c = rw (c .enum-told6 .given .1)
 
 returns-7 : tie.Need-returns-7
 unfolding hasForm
-returns-7 c = rw (c .before .before .enum-told7 .given .1) (c .share-form .ensures ∙ rw (c .before .before .before .before .node-record .ensures, c .before .node-record2 .ensures))
+returns-7 c = let fields = rw (c .before .before .enum-told7 .given .1) at (c .before .before .before .before .before .before .pre .1) in
+    let at = at-gate (c .before .before .before .before .before .before .pre .0) Share _ _ _ fields refl in
+    let low = share-field _ _ _ _ _ fields .1 in
+    rw (c .before .before .enum-told7 .given .1) (c .share-form .ensures ∙ rw (c .before .before .before .before .node-record .ensures, c .before .node-record2 .ensures, gate-at at, node-at (c .before .before .before .before .before .before .pre .0) (c .before .before .before .before .before .before .args .a) (omega (arith, at .upto))))
 
 returns-8 : tie.Need-returns-8
 unfolding hasForm
 returns-8 c = rw (c .enum-told8 .given .1)
+
+returns-9 : tie.Need-returns-9
+unfolding hasForm
+returns-9 c = rw (c .before .enum-told9 .given .1) (c .voter-form .ensures)
 
 pub has-form-spec : {M : Type 1} → statement M
 has-form-spec =
@@ -113,6 +136,8 @@ has-form-spec =
     node-record-requires-2
     share-form-requires
     enum-told-8
+    enum-told-9
+    voter-form-requires
     returns
     returns-2
     returns-3
@@ -120,4 +145,5 @@ has-form-spec =
     returns-5
     returns-6
     returns-7
-    returns-8)
+    returns-8
+    returns-9)

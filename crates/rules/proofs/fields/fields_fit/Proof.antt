@@ -10,12 +10,12 @@ gate-fits-requires c κs = search needs
 asked-requires : tie.Need-asked-requires
 asked-requires c κs = search needs
 
-a-fits-requires : tie.Need-a-fits-requires
-a-fits-requires c κs = search needs
+pair-fits-requires : tie.Need-pair-fits-requires
+pair-fits-requires c κs = search needs
 
 returns : tie.Need-returns
 unfolding fieldsFit
 returns c = cc
 
 pub fields-fit-spec : {M : Type 1} → statement M
-fields-fit-spec = tie.close (tie.spec gate-fits-requires asked-requires a-fits-requires returns)
+fields-fit-spec = tie.close (tie.spec gate-fits-requires asked-requires pair-fits-requires returns)
