@@ -19,6 +19,7 @@ mod table;
 #[cfg(test)]
 mod tests;
 mod value;
+mod voter;
 
 use counts::Counts;
 use pipe::Pipe;

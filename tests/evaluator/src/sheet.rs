@@ -27,6 +27,11 @@ fn step(network: &Network, rule: u16, gate: u16) -> Result<Network, u32> {
     result.map_err(|refusal| refusal.number)
 }
 
+fn voter(network: &Network, gate: u16, a: u16, b: u16) -> Result<Network, u32> {
+    let result = apply(network, Step { rule: 9, gate, a, b }, 65_536);
+    result.map_err(|refusal| refusal.number)
+}
+
 fn values(network: &Network) -> Vec<u32> {
     (0..1 << network.inputs).map(|assignment| outputs(network, assignment)).collect()
 }
@@ -119,7 +124,7 @@ fn rule_3_at_the_limit() {
     assert_eq!(step(&full, 3, 4), Err(10));
     assert_eq!(step(&full, 3, 3), Err(9));
     assert_eq!(step(&full, 3, 2), Err(8));
-    assert_eq!(step(&full, 9, 2), Err(7));
+    assert_eq!(step(&full, 10, 2), Err(7));
 }
 
 #[test]
@@ -143,6 +148,61 @@ fn rules_1_5_6_7() {
     let twins = network(1, [[2, 0, 3], [2, 0, 3], [6, 7, 4]], &[7]);
     let shared = apply(&twins, Step { rule: 7, gate: 3, a: 2, b: 0 }, 65_536);
     assert_eq!(shared, Ok(network(1, [[2, 0, 3], [2, 0, 3], [4, 5, 4]], &[5])));
+}
+
+/// A voter where c is g: the second and third roots are g's edges to a and b. Its copies stand there all the same.
+#[test]
+fn voter_for_the_gate_itself() {
+    let before = network(2, [[0, 2, 4]], &[6]);
+    let after = network(2, [[0, 2, 3], [0, 2, 4], [0, 2, 4], [6, 2, 4]], &[12]);
+    assert_eq!(voter(&before, 3, 1, 2), Ok(after));
+    let inverted = network(2, [[5, 3, 3]], &[7]);
+    let after = network(2, [[2, 3, 3], [5, 3, 3], [5, 3, 3], [6, 3, 5]], &[13]);
+    assert_eq!(voter(&inverted, 3, 1, 2), Ok(after));
+}
+
+/// A voter for two gates that c reads inverted, and a gate above g that reads g and all below it.
+#[test]
+fn voter_for_gates() {
+    let before = network(2, [[0, 2, 4], [1, 2, 4], [7, 9, 2], [11, 8, 5], [10, 13, 9]], &[13, 14, 6]);
+    let first = [[0, 2, 4], [1, 2, 4], [13, 12, 2], [17, 13, 5]];
+    let second = [[0, 2, 4], [1, 2, 4], [21, 23, 2], [20, 22, 5]];
+    let third = [[0, 2, 4], [1, 2, 4], [29, 31, 2], [30, 30, 5]];
+    let mut after = network(2, [[0, 2, 4], [1, 2, 4], [7, 9, 2]], &[37, 38, 6]);
+    let copies = [first, second, third].into_iter().flatten().chain([[18, 26, 34], [10, 37, 9]]);
+    after.gates.extend(copies.map(|gate| gate.map(Edge::of)));
+    assert_eq!(values(&before), values(&after));
+    assert_eq!(voter(&before, 6, 3, 4), Ok(after));
+}
+
+/// c1 = M(a, b, x), c2 = M(a, b, y) and their exclusive or. With both replaced at once it would be false at a = 0, b = 1,
+/// x = 1, y = 0; with c1 alone it keeps its value.
+#[test]
+fn voter_for_one_of_two_gates() {
+    let before = network(4, [[2, 4, 6], [2, 4, 8], [10, 12, 1], [10, 12, 0], [14, 17, 0]], &[18]);
+    let after = voter(&before, 9, 1, 2).unwrap();
+    assert_eq!(values(&before), values(&after));
+    assert_eq!((outputs(&before, 0b0110), outputs(&after, 0b0110)), (1, 1));
+    let second = [[2, 4, 6], [2, 4, 8], [2, 30, 1], [2, 30, 0], [32, 35, 0]];
+    let third = [[2, 4, 6], [2, 4, 8], [4, 40, 1], [4, 40, 0], [42, 45, 0]];
+    let copies = [second, third].into_iter().flatten().chain([[26, 36, 46]]);
+    assert_eq!(after.gates[9..], copies.map(|gate| gate.map(Edge::of)).collect::<Vec<_>>());
+    let mut both = after.clone();
+    for (from, to) in [(15, Edge::of(2)), (20, Edge::of(4))] {
+        let edges = both.gates.iter_mut().flatten().filter(|edge| edge.node == from);
+        edges.for_each(|edge| *edge = to.inverted_if(edge.inverted));
+    }
+    assert_eq!(outputs(&both, 0b0110), 0);
+}
+
+/// Gate 6 stands on level 3 and gate 7 on level 2: a voter for them is refused, while one for gates 4 and 7 is not.
+#[test]
+fn voter_and_levels() {
+    let gates = [[4, 5, 0], [4, 5, 8], [8, 10, 2], [8, 8, 3], [2, 14, 12], [0, 8, 14], [0, 8, 19]];
+    let before = network(3, gates, &[18]);
+    assert_eq!(voter(&before, 9, 6, 7), Err(9));
+    assert_eq!(voter(&before, 9, 4, 7).map(|after| after.gates.len()), Ok(25));
+    assert_eq!(voter(&before, 9, 7, 6), Err(8));
 }
 
 #[test]

@@ -1,9 +1,13 @@
-//! One step: the eight rules on the network, with refusals 7 to 11.
+//! One step: the nine rules on the network, with refusals 7 to 11.
 //!
 //! A rule first says what it plans. While a plan is carried out every gate keeps the name it had, its old node
 //! number, and new gates get names above all others; node numbers are given again at the end.
 
 use crate::table::{Edge, Gate, Network, Refusal, MOST_GATES};
+use crate::voter;
+
+/// The rules are numbered from 1 up to this.
+pub const LAST_RULE: u16 = 9;
 
 #[derive(Clone, Copy, PartialEq, Eq, Debug)]
 pub struct Step {
@@ -39,9 +43,11 @@ fn fields_allowed(network: &Network, step: Step) -> bool {
     let a_fits = match step.rule {
         1 => step.a == 1 || step.a == 2,
         7 => is_gate(step.a) && step.a < step.gate,
+        9 => 0 < step.a && step.a < step.b,
         _ => step.a == 0,
     };
-    gate_fits && a_fits && step.b == 0
+    let b_fits = if step.rule == 9 { step.b < step.gate } else { step.b == 0 };
+    gate_fits && a_fits && b_fits
 }
 
 /// What the step would do, or none where its gate lacks the rule's form; the fields must be allowed.
@@ -77,6 +83,7 @@ pub fn plan(network: &Network, step: Step) -> Option<Plan> {
             let below = usize::from(step.a);
             (network.gate(below)? == [first, second, third]).then(|| Plan::Redirect(Edge::plain(below)))
         }
+        9 => voter::plan(network, usize::from(step.gate), usize::from(step.a), usize::from(step.b)),
         _ => None,
     }
 }
@@ -154,7 +161,7 @@ impl Draft {
 
 /// The network after one step, in a buffer of `room` bytes.
 pub fn apply(network: &Network, step: Step, room: usize) -> Result<Network, Refusal> {
-    if !(1..=8).contains(&step.rule) {
+    if !(1..=LAST_RULE).contains(&step.rule) {
         return Err(Refusal::plain(7));
     }
     if !fields_allowed(network, step) {

@@ -52,6 +52,11 @@ fn level(network: &Network, known: &mut [Option<u32>], node: usize) -> u32 {
     level
 }
 
+/// The level of one node.
+pub fn level_of(network: &Network, node: usize) -> u32 {
+    level(network, &mut vec![None; network.nodes()], node)
+}
+
 pub fn size(network: &Network) -> u32 {
     network.gates.len() as u32
 }
