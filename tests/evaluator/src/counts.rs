@@ -3,14 +3,20 @@
 use crate::answer::Answer;
 use crate::request::{Request, CALLS};
 use crate::rm3::class;
+use crate::step::{Step, LAST_RULE};
 use crate::table::records;
+
+const RULES: usize = LAST_RULE as usize;
 
 #[derive(Default)]
 pub struct Counts {
     asked: [usize; 9],
     accepted: [usize; 9],
     refusals: [[usize; 13]; 9],
-    rules: [[usize; 9]; 9],
+    /// Accepted steps, by operation and rule.
+    rules: [[usize; RULES + 1]; 9],
+    /// Steps that were refused, single ones and those that stopped a script, by rule and refusal.
+    refused_steps: [[usize; 13]; RULES + 1],
     patterns: [usize; 27],
     longest: u32,
 }
@@ -23,6 +29,25 @@ fn possible(operation: u8) -> &'static [usize] {
         5 => &[1, 2, 3, 4, 5, 7, 8, 9, 10, 11, 12],
         6 => &[1, 2, 3, 4, 5, 11],
         _ => &[1, 2, 3, 4, 5],
+    }
+}
+
+/// The refusals of a step that a rule can meet; 7 is met by a voter under a number that is no rule's.
+fn possible_of_rule(rule: usize) -> &'static [usize] {
+    match rule {
+        2 | 7 => &[8, 9],
+        3..=5 => &[8, 9, 10, 11],
+        9 => &[7, 8, 9, 10, 11],
+        _ => &[8],
+    }
+}
+
+/// The rule that a step is counted with: its own, 9 for a voter's fields under a number that is no rule's, else 0.
+fn rule_of(step: Step) -> usize {
+    match step.rule {
+        1..=LAST_RULE => usize::from(step.rule),
+        _ if 0 < step.a && step.a < step.b && step.b < step.gate => 9,
+        _ => 0,
     }
 }
 
@@ -39,14 +64,18 @@ impl Counts {
             None => self.accepted[operation] += 1,
         }
         match request {
-            Request::Step(_, step) if answer.refusal.is_none() => {
-                self.rules[operation][usize::from(step.rule)] += 1;
-            }
+            Request::Step(_, step) => match answer.refusal {
+                Some(refusal) => self.refused_steps[rule_of(*step)][refusal.number as usize] += 1,
+                None => self.rules[operation][rule_of(*step)] += 1,
+            },
             Request::Script(_, script) => {
                 let taken = answer.numbers[0];
                 self.longest = self.longest.max(taken);
-                for step in records(script).iter().take(taken as usize) {
-                    self.rules[operation][usize::from(step[0])] += 1;
+                let steps: Vec<Step> = records(script).into_iter().map(Step::of).collect();
+                let (taken, left) = steps.split_at(taken as usize);
+                taken.iter().for_each(|&step| self.rules[operation][rule_of(step)] += 1);
+                if let (Some(refusal), Some(&step)) = (answer.refusal, left.first()) {
+                    self.refused_steps[rule_of(step)][refusal.number as usize] += 1;
                 }
             }
             Request::Rm3(table, _) if answer.refusal.is_none() => {
@@ -69,8 +98,12 @@ impl Counts {
             }
             let never = possible(operation).iter().filter(|&&number| self.refusals[place][number] == 0);
             lines.extend(never.map(|number| format!("never met: refusal {number} of operation {operation}")));
-            let rules = (1..=8).filter(|&rule| (operation == 4 || operation == 5) && self.rules[place][rule] == 0);
+            let rules = (1..=RULES).filter(|&rule| (operation == 4 || operation == 5) && self.rules[place][rule] == 0);
             lines.extend(rules.map(|rule| format!("never met: rule {rule} accepted by operation {operation}")));
+            for rule in (1..=RULES).filter(|_| operation == 4) {
+                let never = possible_of_rule(rule).iter().filter(|&&number| self.refused_steps[rule][number] == 0);
+                lines.extend(never.map(|number| format!("never met: refusal {number} of rule {rule}")));
+            }
             if operation == 6 && self.patterns.contains(&0) {
                 lines.push("never met: one of the 27 RM3 patterns".to_string());
             }
@@ -87,9 +120,11 @@ impl Counts {
             lines.push(format!("operation {place} ({}): {asked} requests, {accepted} accepted", CALLS[place]));
         }
         if asked.contains(&4) || asked.contains(&5) {
-            lines.extend((1..=8).map(|rule| {
+            lines.extend((1..=RULES).map(|rule| {
                 let (single, scripted) = (self.rules[4][rule], self.rules[5][rule]);
-                format!("rule {rule}: {single} single steps and {scripted} script steps accepted")
+                let refused = |&number: &usize| format!(", {} refused {number}", self.refused_steps[rule][number]);
+                let refused: String = possible_of_rule(rule).iter().map(refused).collect();
+                format!("rule {rule}: {single} single steps and {scripted} script steps accepted{refused}")
             }));
         }
         for number in (1..=12).filter(|number| asked.iter().any(|&operation| possible(operation).contains(number))) {

@@ -6,7 +6,8 @@ use crate::cases::Dealer;
 use crate::counts::Counts;
 use crate::request::Request;
 use crate::run::{run, Settings, ENOUGH};
-use crate::step::apply;
+use crate::step::{apply, Step};
+use crate::table::{read, Refusal, MOST_GATES};
 use crate::value::outputs;
 
 /// No accepted step changes an output, under any assignment.
@@ -43,11 +44,11 @@ fn a_run_against_its_own_answers_meets_everything() {
 
 #[test]
 fn a_slip_is_found_out() {
-    let slips: [fn(&Request, Answer) -> Answer; 5] = [
+    let slips: [fn(&Request, Answer) -> Answer; 8] = [
         // Rule 1 takes the other edge.
         |request, own| match request {
             Request::Step(table, step) if step.rule == 1 && own.refusal.is_none() => {
-                let other = crate::step::Step { a: 3 - step.a, ..*step };
+                let other = Step { a: 3 - step.a, ..*step };
                 answer(&Request::Step(table.clone(), other))
             }
             _ => own,
@@ -74,6 +75,32 @@ fn a_slip_is_found_out() {
             (Request::Evaluate(table, assignment), Some(refusal)) if refusal.number == 6 => {
                 let bit = table.network().map_or(0, |network| 1 << network.inputs);
                 answer(&Request::Evaluate(table.clone(), assignment & !bit))
+            }
+            _ => own,
+        },
+        // A voter's second and third roots are exchanged.
+        |request, mut own| {
+            if let (Request::Step(table, Step { rule: 9, gate, .. }), None) = (request, own.refusal) {
+                let g = usize::from(*gate) + (own.numbers[0] - table.used) as usize / 8;
+                own.bytes[8 * g - 4..8 * g].rotate_left(2);
+            }
+            own
+        },
+        // A voter that gives 1,024 gates is refused.
+        |request, own| match request {
+            Request::Step(table, Step { rule: 9, .. }) => match read(&own.bytes, own.numbers[0], None) {
+                Ok(network) if network.gates.len() == MOST_GATES => {
+                    Answer { refusal: Some(Refusal::plain(10)), numbers: vec![0], bytes: table.buffer.clone() }
+                }
+                _ => own,
+            },
+            _ => own,
+        },
+        // A voter takes a and b in either order.
+        |request, own| match request {
+            Request::Step(table, step @ Step { rule: 9, .. }) if step.a > step.b => {
+                let other = Step { a: step.b, b: step.a, ..*step };
+                answer(&Request::Step(table.clone(), other))
             }
             _ => own,
         },

@@ -3,13 +3,14 @@
 mod assignments;
 mod damage;
 mod deck;
-mod networks;
+pub mod networks;
 mod plant;
 mod readings;
 mod scripts;
 mod steps;
 mod tables;
 mod translations;
+mod voters;
 
 pub use deck::{Case, Dealer};
 
@@ -23,7 +24,7 @@ use deck::{kind, Kind};
 fn kinds(operation: u8) -> Vec<Kind> {
     let mut kinds = match operation {
         2 => assignments::kinds(Request::Evaluate),
-        4 => steps::kinds(),
+        4 => [steps::kinds(), voters::kinds()].into_iter().flatten().collect(),
         5 => scripts::kinds(),
         6 => translations::kinds(),
         7 => readings::evaluate_kinds(),
@@ -76,11 +77,14 @@ fn any_assignment(random: &mut Random) -> u32 {
 
 /// A step whose fields are often allowed for a small table.
 fn any_step(random: &mut Random) -> Step {
-    let rule = random.pick(&[0, 1, 2, 3, 4, 5, 6, 7, 8, 8, 8, 9, 65535]);
-    let gate = if rule == 8 { 0 } else { random.below(12) as u16 };
-    let a = if rule == 1 { random.between(1, 2) } else { 0 };
-    let b = if random.once_in(8) { 1 } else { 0 };
-    Step { rule, gate, a: a as u16, b }
+    let rule = random.pick(&[0, 1, 2, 3, 4, 5, 6, 7, 8, 8, 8, 9, 10, 65535]);
+    let gate = if rule == 8 { 0 } else { random.below(12) };
+    let a = if rule == 1 || rule == 9 { random.between(1, 2) } else { 0 };
+    let b = match rule == 9 {
+        true => random.between(2, 5),
+        false => usize::from(random.once_in(8)),
+    };
+    Step::of([rule, gate as u16, a as u16, b as u16])
 }
 
 /// A network's table in a buffer with `behind` bytes of garbage after it.

@@ -1,5 +1,6 @@
 //! Networks in which one rule finds its form, and changes that make it a near miss.
 
+use super::voters::{self, Shape};
 use super::{lent, networks};
 use crate::random::Random;
 use crate::request::Request;
@@ -15,13 +16,32 @@ pub struct Plant {
 }
 
 impl Plant {
+    /// A plant whose form and outputs are still to be added: fewer than `most` gates, and at times a pad.
+    pub fn begun(random: &mut Random, rule: u16, most: usize) -> Plant {
+        let inputs = random.between(if rule == 9 { 2 } else { 1 }, 5);
+        let before = random.below(most);
+        let network = networks::sized(random, inputs, before, 0);
+        let step = Step { rule, gate: 0, a: 0, b: 0 };
+        let mut plant = Plant { network, step, form: Vec::new() };
+        plant.pad(random);
+        plant
+    }
+
+    /// Names g in the step, and adds its readers: so many gates, and outputs.
+    pub fn finish(&mut self, random: &mut Random, readers: usize) {
+        if self.step.rule != 8 {
+            self.step.gate = self.g() as u16;
+        }
+        self.add_readers(random, readers);
+    }
+
     /// Any edge that the next gate may have.
-    fn edge(&self, random: &mut Random) -> Edge {
+    pub fn edge(&self, random: &mut Random) -> Edge {
         networks::edge(random, self.network.nodes())
     }
 
     /// Adds a gate of the form and gives it as an edge.
-    fn add(&mut self, gate: Gate) -> Edge {
+    pub fn add(&mut self, gate: Gate) -> Edge {
         let node = self.network.nodes();
         self.network.gates.push(gate);
         self.form.push(node);
@@ -29,7 +49,7 @@ impl Plant {
     }
 
     /// Adds at times a gate or two that read anything.
-    fn pad(&mut self, random: &mut Random) {
+    pub fn pad(&mut self, random: &mut Random) {
         let gates = self.network.gates.len() + random.pick(&[0, 0, 1, 2]);
         networks::fill(random, &mut self.network, gates);
     }
@@ -68,6 +88,10 @@ impl Plant {
                 self.add([x, y, u]);
                 self.step.a = a.node as u16;
             }
+            9 => {
+                let shape = Shape::of(random.below(Shape::COUNT));
+                voters::add_form(self, random, shape);
+            }
             _ => {
                 self.add([x, y, u]);
             }
@@ -78,18 +102,29 @@ impl Plant {
         self.form[self.form.len() - 1]
     }
 
+    /// By how many bytes the step, as it was planted, makes the table longer.
+    pub fn growth(&self) -> usize {
+        let inserted = match self.step.rule {
+            3 | 5 => 1,
+            4 => 2,
+            9 => 3 * (self.g() - self.network.inputs),
+            _ => 0,
+        };
+        8 * inserted
+    }
+
     /// Adds gates and outputs of which about half the edges name g, in both ways.
-    fn add_readers(&mut self, random: &mut Random, outputs: usize) {
+    fn add_readers(&mut self, random: &mut Random, gates: usize) {
         let g = self.g();
         let reading = |random: &mut Random, edge: Edge| match random.once_in(2) {
             true => Edge { node: g, inverted: random.once_in(2) },
             false => edge,
         };
-        for _ in 0..random.below(4) {
+        for _ in 0..gates {
             let gate = networks::gate(random, self.network.nodes());
             self.network.gates.push(gate.map(|edge| reading(random, edge)));
         }
-        for _ in 0..outputs {
+        for _ in 0..random.between(1, 4) {
             let edge = self.edge(random);
             self.network.outputs.push(reading(random, edge));
         }
@@ -118,20 +153,13 @@ impl Plant {
 
 /// A plant for the rule with exactly `gates` gates, or, where none are asked for, a few.
 pub fn plant(random: &mut Random, rule: u16, gates: Option<usize>) -> Plant {
-    let (inputs, outputs) = (random.between(1, 5), random.between(1, 4));
-    let before = gates.map_or(random.below(5), |gates| random.below(gates - 16));
-    let network = networks::sized(random, inputs, before, 0);
-    let step = Step { rule, gate: 0, a: 0, b: 0 };
-    let mut plant = Plant { network, step, form: Vec::new() };
-    plant.pad(random);
+    let mut plant = Plant::begun(random, rule, gates.map_or(5, |gates| gates - 32));
     plant.add_form(random, rule);
-    if rule != 8 {
-        plant.step.gate = plant.g() as u16;
-    }
     if rule == 1 {
         plant.step.a = random.between(1, 2) as u16;
     }
-    plant.add_readers(random, outputs);
+    let readers = random.below(4);
+    plant.finish(random, readers);
     networks::fill(random, &mut plant.network, gates.unwrap_or(0));
     plant
 }

@@ -26,6 +26,9 @@ impl Draft {
         if rule == 8 || gates == 0 {
             return Some(Step { rule: 8, gate: 0, a: 0, b: 0 });
         }
+        if rule == 9 {
+            return self.fitting_voter(random);
+        }
         let (start, exchange) = (random.below(gates), random.between(1, 2));
         let tries = if rule == 7 { gates.min(24) } else { gates };
         (0..tries).find_map(|more| {
@@ -38,6 +41,22 @@ impl Draft {
             };
             let step = Step { rule, gate: (first + at) as u16, a: a as u16, b: 0 };
             plan(&self.network, step).map(|_| step)
+        })
+    }
+
+    /// A voter for two nodes that a gate reads, looked for from a random gate on, at any g that the room allows.
+    fn fitting_voter(&self, random: &mut Random) -> Option<Step> {
+        let gates = self.network.gates.len();
+        let room = (self.table.buffer.len() - self.network.used()) / 8;
+        let most_copied = gates.min(room.min(MOST_GATES - gates) / 3);
+        let start = random.below(gates);
+        (0..24).map(|more| (start + more) % gates).filter(|&at| at < most_copied).find_map(|at| {
+            let mut edges = self.network.gates[at];
+            random.shuffle(&mut edges);
+            let [a, b] = [edges[0].node.min(edges[1].node), edges[0].node.max(edges[1].node)];
+            let g = self.network.inputs + random.between(at + 1, most_copied);
+            let step = Step::of([9, g, a, b].map(|field| field as u16));
+            (0 < a && a < b && plan(&self.network, step).is_some()).then_some(step)
         })
     }
 
@@ -58,19 +77,22 @@ impl Draft {
 
     fn grow_some(&mut self, random: &mut Random, steps: usize) {
         for _ in 0..steps {
-            self.grow(random, &[1, 1, 2, 3, 3, 4, 4, 5, 6, 6, 7, 8]);
+            self.grow(random, &[1, 1, 2, 3, 3, 4, 4, 5, 6, 6, 7, 8, 9]);
         }
     }
 
     /// Adds a step that is refused 7, 8 or 9 here, or that happens to be accepted.
     fn refuse(&mut self, random: &mut Random, turn: usize) {
         let gate = (self.network.nodes() - 1) as u16;
-        let bad = match turn % 6 {
+        let bad = match turn % 9 {
             0 => [0, gate, 1, 0],
-            1 => [9, gate, 0, 0],
+            1 => [10, gate, 1, 2],
             2 => [6, gate + 1, 0, 0],
             3 => [8, 0, 0, 1],
             4 => [1, gate, 3, 0],
+            5 => [9, gate, 2, 1],
+            6 => [9, gate, 1, gate],
+            7 => [9, gate, random.between(1, 4) as u16, gate.saturating_sub(1)],
             _ => {
                 let fits = |&rule: &u16| plan(&self.network, Step { rule, gate, a: 0, b: 0 }).is_some();
                 let rules: Vec<u16> = (2..=5).filter(|rule| !fits(rule)).collect();
@@ -121,13 +143,13 @@ fn stopped(random: &mut Random, turn: usize, before: usize, after: usize) -> Req
     draft.request()
 }
 
-/// In little room: rule 8 makes room that rules 3, 4 and 5 take again.
+/// In little room: rule 8 makes room that rules 3, 4, 5 and 9 take again.
 fn sweep_and_grow(random: &mut Random, _turn: usize) -> Request {
     let (gates, behind) = (random.between(3, 12), random.pick(&[8, 16, 24, 31, 40]));
     let network = networks::chain(random, 4, gates, 1);
     let mut draft = Draft::new(random, network, behind);
     for _ in 0..random.between(10, 60) {
-        if !draft.grow(random, &[3, 4, 5, 3, 4, 5, 2, 6]) {
+        if !draft.grow(random, &[3, 4, 5, 9, 3, 4, 5, 9, 2, 6]) {
             draft.grow(random, &[8, 1]);
         }
     }
@@ -148,6 +170,35 @@ fn grow_until_refused(random: &mut Random, turn: usize) -> Request {
     draft.request()
 }
 
+/// A voter again and again at one gate, which copies the copies of the one before, until it is refused 10 or 11.
+fn vote_until_refused(random: &mut Random, turn: usize) -> Request {
+    let mut plant = plant(random, 9, None);
+    networks::fill(random, &mut plant.network, [0, 0, 30, 100][turn / 2 % 4]);
+    let (inputs, step) = (plant.network.inputs, plant.step);
+    let room = if turn % 2 == 0 { 8 * MOST_GATES } else { random.between(8, 8 * 300) };
+    let mut draft = Draft::new(random, plant.network, room);
+    let mut copied = usize::from(step.gate) - inputs;
+    while copied <= 4 * MOST_GATES {
+        draft.script.push([9, (inputs + copied) as u16, step.a, step.b]);
+        copied *= 4;
+    }
+    draft.script.push([8, 0, 0, 0]);
+    draft.request()
+}
+
+/// Voters after voters, wherever they fit, with now and then a step that simplifies or sweeps.
+fn voters(random: &mut Random, _turn: usize) -> Request {
+    let (gates, room) = (random.between(2, 12), random.between(20, MOST_GATES));
+    let network = networks::chain(random, 4, gates, 3);
+    let mut draft = Draft::new(random, network, 8 * room);
+    for _ in 0..random.between(4, 40) {
+        if !draft.grow(random, &[9, 9, 9, 9, 2, 6]) {
+            draft.grow(random, &[2, 7, 8, 8]);
+        }
+    }
+    draft.request()
+}
+
 /// Grows to 1,024 gates, sweeps, mixes and grows again, until the script has as many steps as wanted.
 fn long(random: &mut Random, wanted: usize, most_gates: usize) -> Request {
     let network = networks::chain(random, 8, 60, 32);
@@ -156,16 +207,16 @@ fn long(random: &mut Random, wanted: usize, most_gates: usize) -> Request {
     while draft.script.len() < wanted {
         let mut failures = 0;
         while failures < 12 && draft.script.len() < wanted {
-            failures += usize::from(!draft.grow(random, &[1, 3, 3, 4, 4, 4, 4, 5, 5, 6]));
+            failures += usize::from(!draft.grow(random, &[1, 3, 3, 4, 4, 4, 4, 5, 5, 6, 9]));
         }
         for _ in 0..random.between(5, 40) {
-            draft.grow(random, &[1, 1, 2, 6, 7, 7, 8, 8]);
+            draft.grow(random, &[1, 1, 2, 6, 7, 7, 8, 8, 9]);
         }
     }
     draft.script.truncate(wanted);
     if random.once_in(2) {
         let place = random.between(wanted - 20, wanted - 1);
-        draft.script[place] = random.pick(&[[0; 4], [6, 65535, 0, 0], [9, 1, 0, 0]]);
+        draft.script[place] = random.pick(&[[0; 4], [6, 65535, 0, 0], [10, 1, 0, 0], [9, 1, 1, 2]]);
     }
     draft.request()
 }
@@ -180,6 +231,8 @@ pub fn kinds() -> Vec<Kind> {
         kind("script stopped at the last step", 4, |random, turn| stopped(random, turn, 6, 0)),
         kind("script that sweeps and grows again", 8, sweep_and_grow),
         kind("script that grows until refused", 6, grow_until_refused),
+        kind("script of one voter until refused", 4, vote_until_refused),
+        kind("script of voters", 4, voters),
         kind("script of hundreds of steps", 1, |random, _| {
             let (wanted, most_gates) = (random.between(100, 700), random.between(100, 300));
             long(random, wanted, most_gates)

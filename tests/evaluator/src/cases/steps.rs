@@ -5,13 +5,20 @@ use super::plant::{plant, Plant};
 use super::{lent, networks};
 use crate::random::Random;
 use crate::request::Request;
-use crate::step::Step;
+use crate::step::{Step, LAST_RULE};
 use crate::table::{Edge, Network, MOST_GATES};
 
-/// The rules that insert gates.
+/// The rules that insert one gate or two.
 const GROWING: [u16; 3] = [3, 4, 5];
 
-fn some_behind(random: &mut Random) -> usize {
+const RULES: usize = LAST_RULE as usize;
+
+/// The rules in turn.
+fn any_rule(turn: usize) -> u16 {
+    1 + (turn % RULES) as u16
+}
+
+pub fn some_behind(random: &mut Random) -> usize {
     random.pick(&[0, 3, 8, 16, 21, 40])
 }
 
@@ -49,11 +56,12 @@ fn share_a(random: &mut Random, turn: usize) -> Request {
 
 /// The gate field just inside and just outside the gates, for every rule.
 fn gate_border(random: &mut Random, turn: usize) -> Request {
-    let mut plant = plant(random, 1 + (turn % 8) as u16, None);
+    let mut plant = plant(random, any_rule(turn), None);
     let (inputs, past) = (plant.network.inputs, plant.network.nodes());
     let gates = [0, 1, inputs, inputs + 1, past - 1, past, past + 1, 65535, plant.g() + 256, 2 * plant.g()];
-    plant.step.gate = gates[turn / 8 % gates.len()] as u16;
-    plant.request(random, 16)
+    plant.step.gate = gates[turn / RULES % gates.len()] as u16;
+    let behind = plant.growth().max(16);
+    plant.request(random, behind)
 }
 
 /// Makes one field of an accepted step wrong, or at least another.
@@ -61,7 +69,7 @@ fn spoil_field(random: &mut Random, plant: &mut Plant, field: usize) {
     let (inputs, past, g) = (plant.network.inputs, plant.network.nodes(), plant.g());
     let any = random.below(past);
     match field {
-        0 => plant.step.rule = random.pick(&[0, 9, 10, 255, 256 + plant.step.rule, 65535]),
+        0 => plant.step.rule = random.pick(&[0, 10, 11, 255, 256 + plant.step.rule, 65535]),
         1 => plant.step.gate = random.pick(&[0, 1, inputs, past, past + 1, any, 65535]) as u16,
         2 => plant.step.a = random.pick(&[0, 1, 2, 3, inputs, g - 1, g, g + 1, past, any, 65535]) as u16,
         _ => plant.step.b = random.pick(&[1, 2, 256, 65535]),
@@ -69,14 +77,15 @@ fn spoil_field(random: &mut Random, plant: &mut Plant, field: usize) {
 }
 
 fn one_field(random: &mut Random, turn: usize) -> Request {
-    let mut plant = plant(random, 1 + (turn % 8) as u16, None);
-    spoil_field(random, &mut plant, turn / 8 % 4);
-    plant.request(random, 16)
+    let mut plant = plant(random, any_rule(turn), None);
+    spoil_field(random, &mut plant, turn / RULES % 4);
+    let behind = plant.growth().max(16);
+    plant.request(random, behind)
 }
 
 /// Several faults at once, of the fields, the form, the number of gates and the room.
 fn several(random: &mut Random, turn: usize) -> Request {
-    let rule = if turn % 3 == 0 { random.between(1, 8) as u16 } else { random.pick(&GROWING) };
+    let rule = if turn % 3 == 0 { any_rule(random.below(RULES)) } else { random.pick(&GROWING) };
     let gates = random.once_in(3).then_some(MOST_GATES);
     let mut plant = plant(random, rule, gates);
     for field in 0..4 {
