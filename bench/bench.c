@@ -6,6 +6,7 @@
  *   bench traced         asks ours and theirs in turn, each call between two lines, so that a trace shows its instructions
  *
  * A step is asked of the gate in the middle, which has the rule's form; where a rule inserts, the largest table has 1,022 gates.
+ * A voter is asked of the gate at a third and all but doubles the gates, so its largest table has 512.
  */
 #include <stdio.h>
 #include <stdlib.h>
@@ -59,6 +60,7 @@ static const struct row ROWS[] = {
     { "step 6 inversion", STEP, 6 },
     { "step 7 share", STEP, 7 },
     { "step 8 sweep", STEP, 8 },
+    { "step 9 voter", STEP, 9 },
     { "script of 64 steps", SCRIPT, 0 },
     { "translate", TRANSLATE, 0 },
 };
@@ -73,7 +75,7 @@ struct input {
     size_t used, length;
     uint8_t table[MOST_BUFFER];
     uint32_t assignment;
-    uint16_t rule, gate, a;
+    uint16_t rule, gate, a, b;
     uint8_t steps[RECORD * STEPS];
 };
 
@@ -104,7 +106,7 @@ __attribute__((noinline)) static void ask(const struct side *side, const struct 
         break;
     }
     case STEP: {
-        struct pulpgarnet_stepped r = side->step(table, in->length, in->used, in->rule, in->gate, in->a, 0);
+        struct pulpgarnet_stepped r = side->step(table, in->length, in->used, in->rule, in->gate, in->a, in->b);
         n[0] = r.refusal, n[1] = r.record, n[2] = r.used;
         break;
     }
@@ -158,10 +160,10 @@ static unsigned some_edge(unsigned node)
     return 2 * (node - 1 - below(far)) + (below(4) == 0);
 }
 
-/* Gives a gate the form of a rule, by the two gates before it where the rule needs others. */
+/* Gives a gate the form of a rule, by up to three gates before it where the rule needs others. */
 static void plant(uint8_t *table, unsigned node, unsigned rule)
 {
-    unsigned x = some_edge(node), y = some_edge(node), z = some_edge(node), h = node - 1, i = node - 1;
+    unsigned x = some_edge(node), y = some_edge(node), z = some_edge(node), h = node - 1, i = node - 1, a, b;
     switch (rule) {
     case 2:
         y = x;
@@ -181,11 +183,17 @@ static void plant(uint8_t *table, unsigned node, unsigned rule)
     case 7:
         x = edge_of(table, h, 1), y = edge_of(table, h, 2), z = edge_of(table, h, 3);
         break;
+    case 9:
+        a = node - 3, b = node - 2;
+        put_record(table, b - 1, 2, 2 * a, edge_of(table, b, 2), edge_of(table, b, 3));
+        put_record(table, h - 1, 2, 2 * a, 2 * b, edge_of(table, h, 3));
+        z = 2 * h;
+        break;
     }
     put_record(table, i, 2, x, y, z);
 }
 
-/* Steps that are accepted one after another: any rule, at a gate from a random one on that has its form. */
+/* Steps that are accepted one after another: any of rules 1 to 8, at a gate from a random one on that has its form. */
 static void choose_steps(struct input *in)
 {
     static uint8_t table[MOST_BUFFER];
@@ -212,7 +220,11 @@ static void choose_steps(struct input *in)
     }
 }
 
-static int inserts(unsigned rule) { return 3 <= rule && rule <= 5; }
+/* The largest table that a row has. */
+static unsigned most_gates(unsigned rule)
+{
+    return rule == 9 ? MOST_GATES / 2 : 3 <= rule && rule <= 5 ? MOST_GATES - 2 : MOST_GATES;
+}
 
 static void make_input(struct input *in, const struct row *row, unsigned gates)
 {
@@ -220,7 +232,7 @@ static void make_input(struct input *in, const struct row *row, unsigned gates)
     seed = 88172645463325252u;
     in->call = row->call;
     in->rule = row->rule;
-    in->gates = inserts(row->rule) && gates > MOST_GATES - 2 ? MOST_GATES - 2 : gates;
+    in->gates = gates > most_gates(row->rule) ? most_gates(row->rule) : gates;
     in->outputs = (in->gates + 31) / 32 < 2 ? 2 : (in->gates + 31) / 32;
     in->inputs = in->outputs < 4 ? 4 : in->outputs;
     unsigned nodes = in->inputs + in->gates;
@@ -235,13 +247,15 @@ static void make_input(struct input *in, const struct row *row, unsigned gates)
     for (unsigned j = 0; j < in->outputs; j++)
         put_record(in->table, nodes + j, 3, some_edge(nodes + 1), 0, 0);
     in->used = RECORD * (nodes + in->outputs);
-    in->length = in->used + SPARE;
+    unsigned copied = in->gates / 3;
+    in->length = in->used + (row->rule == 9 ? RECORD * 3 * copied : SPARE);
     in->assignment = in->inputs == 32 ? (uint32_t)seed : (uint32_t)seed & ((1u << in->inputs) - 1);
     if (row->call == STEP && row->rule != 8) {
-        unsigned middle = in->inputs + in->gates / 2 + 1;
-        plant(in->table, middle, row->rule);
-        in->gate = (uint16_t)middle;
-        in->a = row->rule == 1 ? 1 : row->rule == 7 ? (uint16_t)(middle - 1) : 0;
+        unsigned gate = in->inputs + (row->rule == 9 ? copied : in->gates / 2 + 1);
+        plant(in->table, gate, row->rule);
+        in->gate = (uint16_t)gate;
+        in->a = (uint16_t)(row->rule == 1 ? 1 : row->rule == 7 ? gate - 1 : row->rule == 9 ? gate - 3 : 0);
+        in->b = (uint16_t)(row->rule == 9 ? gate - 2 : 0);
     }
     if (row->call == SCRIPT)
         choose_steps(in);
