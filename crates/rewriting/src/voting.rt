@@ -14,7 +14,7 @@ use std::num::wrapping_add_u16;
 use tables::put_record;
 use tables::record_at;
 ghost use mathlib.Core.Path.{_≡_};
-ghost use Prim.Native.Nat.{_+_, _≤_, _<_};
+ghost use Prim.Native.Nat.{_+_, _≤_, _<_, max};
 ghost use lib.Dec.{leb};
 ghost use Rattle.majority.specs.Edit.{edges};
 ghost use Rattle.majority.specs.Level.{level as levelOf};
@@ -54,13 +54,24 @@ fn has_pair(a: u16, b: u16, r: Record) -> bool
     pair_in(true, a, b, r) | pair_in(false, a, b, r)
 }
 
+// The first node that is a gate and may read node a.
+fn first_above(inputs: usize, a: u16) -> usize
+    requires { ⌜ (inputs ≤ 32) × (a ≤ 1057) ⌝ }
+    ensures { λ r. ⌜ r ≡ max inputs a + 1 ⌝ }
+{
+    if inputs < a as usize {
+        return a as usize + 1;
+    }
+    inputs + 1
+}
+
 // The lowest gate, at most the given one, that has the pair; one more than the given one where none has.
 fn pair_gate(s: &[u8], counts: Counts, gate: u16, a: u16, b: u16) -> u16
     requires { ⌜ AtGate (now s) counts gate × (a < b) × (b < gate) ⌝ }
     ensures { λ r. ⌜ r ≡ pairGate (counts .inputs) gate a b (tableIn (now (s .entry)) counts) ⌝ }
 {
     let last = gate as usize;
-    let mut c = counts.inputs + 1;
+    let mut c = first_above(counts.inputs, a);
     while c <= last {
         if has_pair(a, b, record_at(s, c - 1)) {
             return c as u16;
