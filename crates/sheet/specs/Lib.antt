@@ -1,1 +1,1 @@
-pub mod Sheet  -- the examples P1 to P10 (SPEC 8)
+pub mod Sheet  -- the examples P1 to P13 (SPEC 8)
