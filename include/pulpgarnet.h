@@ -8,9 +8,10 @@
  *
  * `used` is the table's own length, in bytes from the beginning of its buffer. It may be any number: what is wrong is refused.
  *
- * A reply begins with `refusal`, 0 for none, else 1 to 12 as README.md lists them, and `record`, the record that refusals 2, 4
- * and 5 carry, counted from 0, else 0. Where a call is refused it has written nothing and all other numbers are 0;
- * pulpgarnet_script says what it does instead. Bytes that a call is not said to write stay as they were.
+ * A reply begins with `refusal`, 0 for none, else 1 to 12 as README.md lists them, `record`, the record that refusals 2, 4 and 5
+ * carry, counted from 0, else 0, and `edge`, which of that record's edges refusal 5 means, the first bad one: 1, 2 or 3, else 0.
+ * Where a call is refused it has written nothing and all other numbers are 0; pulpgarnet_script says what it does instead. Bytes
+ * that a call is not said to write stay as they were.
  */
 #ifndef PULPGARNET_H
 #define PULPGARNET_H
@@ -22,13 +23,13 @@
 extern "C" {
 #endif
 
-struct pulpgarnet_checked  { uint32_t refusal; size_t record; size_t inputs, gates, outputs; };
-struct pulpgarnet_valued   { uint32_t refusal; size_t record; uint32_t outputs; };
-struct pulpgarnet_reported { uint32_t refusal; size_t record; size_t size, depth; };
-struct pulpgarnet_stepped  { uint32_t refusal; size_t record; size_t used; };
-struct pulpgarnet_ran      { uint32_t refusal; size_t record; size_t taken, used; };
-struct pulpgarnet_written  { uint32_t refusal; size_t record; size_t length; };
-struct pulpgarnet_deep     { uint32_t refusal; size_t record; size_t depth; };
+struct pulpgarnet_checked  { uint32_t refusal; size_t record; uint32_t edge; size_t inputs, gates, outputs; };
+struct pulpgarnet_valued   { uint32_t refusal; size_t record; uint32_t edge; uint32_t outputs; };
+struct pulpgarnet_reported { uint32_t refusal; size_t record; uint32_t edge; size_t size, depth; };
+struct pulpgarnet_stepped  { uint32_t refusal; size_t record; uint32_t edge; size_t used; };
+struct pulpgarnet_ran      { uint32_t refusal; size_t record; uint32_t edge; size_t taken, used; };
+struct pulpgarnet_written  { uint32_t refusal; size_t record; uint32_t edge; size_t length; };
+struct pulpgarnet_deep     { uint32_t refusal; size_t record; uint32_t edge; size_t depth; };
 
 /* Whether the buffer holds a table: the numbers of its inputs, gates and outputs. Writes nothing. Refusals 1 to 5. */
 struct pulpgarnet_checked pulpgarnet_check(const uint8_t *table, size_t length, size_t used);

@@ -42,7 +42,7 @@ fn main() {
         b"",
         b"it takes no argument",
         b"majcheck < TABLE",
-        b"Checks the majority table on standard input, of at most 8704 bytes.\nArguments: none.\nWrites `inputs N gates M outputs O`; or `refused N at R`, or `too long`.\n",
+        b"Checks the majority table on standard input, of at most 8704 bytes.\nArguments: none.\nWrites `inputs N gates M outputs O`; or `refused N at R E`, or `too long`.\n",
     ) {
         Called::Rightly => program.end(run(program)),
         Called::Done(end) => program.end(end),

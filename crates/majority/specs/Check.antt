@@ -4,7 +4,7 @@ use mathlib.Core.Bool.{Bool, false, not, _||_}
 use mathlib.Core.List.{List, [], _∷_}
 use lib.ListN.{length}
 use lib.Dec.{ltb, eqb}
-use Rattle.refusals.specs.Why.{why, whyAt}
+use Rattle.refusals.specs.Why.{Why, why, whyAt, whyEdge}
 use Rattle.refusals.specs.Reply.{Reply, accepted, refused, andThen}
 use Rattle.majority.specs.If.{if_then_else_}
 use Rattle.majority.specs.Edge.{nodeOf}
@@ -52,26 +52,35 @@ notZero r =
 abbrev pub past : ℕ → ℕ → Bool
 past last e = ltb last (nodeOf e)
 
--- 5: an edge names a node it may not. The gate of record i is node i + 1, so its edges name nodes up to i; an output's names any node, up to last
-abbrev pub badEdge : ℕ → ℕ → Record → Bool
-badEdge last i r =
-    if eqb (r .kind) 1 then false
-    else if eqb (r .kind) 2 then past i (r .e1) || past i (r .e2) || past i (r .e3)
-    else past last (r .e1)
+-- which of three tests is the first that holds, counted from 1; 0 where none does
+abbrev pub firstOf : Bool → Bool → Bool → ℕ
+firstOf a b c = if a then 1 else if b then 2 else if c then 3 else 0
 
--- the refusal of record i in a table whose last node is last, 4 before 5; 0 where there is none
-unfoldable pub faultOf : ℕ → ℕ → Record → ℕ
-faultOf last i r = if notZero r then 4 else if badEdge last i r then 5 else 0
+-- 5: which edge of record i names a node it may not, counted from 1: the first such of a gate's three, or an output's one; 0 where none does.
+-- The gate of record i is node i + 1, so its edges name nodes up to i; an output's names any node, up to last
+abbrev pub badEdge : ℕ → ℕ → Record → ℕ
+badEdge last i r =
+    if eqb (r .kind) 1 then 0
+    else if eqb (r .kind) 2 then firstOf (past i (r .e1)) (past i (r .e2)) (past i (r .e3))
+    else firstOf (past last (r .e1)) false false
+
+-- record i has a fault, 4 or 5, in a table whose last node is last
+unfoldable pub faulty : ℕ → ℕ → Record → Bool
+faulty last i r = notZero r || ltb 0 (badEdge last i r)
+
+-- the refusal of a record i that has a fault, 4 before 5
+unfoldable pub faultOf : ℕ → ℕ → Record → Why
+faultOf last i r = if notZero r then whyAt 4 i else whyEdge i (badEdge last i r)
 
 unfoldable pub faultyAt : ℕ → List Record → ℕ → Bool
-faultyAt last rs i = not (eqb (faultOf last i (recordAt rs i)) 0)
+faultyAt last rs i = faulty last i (recordAt rs i)
 
 -- 4 and 5 by the first bad record, of a table with these counts
 unfoldable pub checkFields : Counts → List Record → Reply Counts
 checkFields c rs =
     let last = c .inputs + c .gates in
     let bad = first (faultyAt last rs) (length rs) in
-    if ltb bad (length rs) then refused (whyAt (faultOf last bad (recordAt rs bad)) bad) else accepted c
+    if ltb bad (length rs) then refused (faultOf last bad (recordAt rs bad)) else accepted c
 
 -- 2 over all records, for the first bad one, or the counts found
 unfoldable pub checkKinds : List Record → Reply Counts

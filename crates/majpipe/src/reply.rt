@@ -11,17 +11,17 @@ pub struct Reply {
 }
 
 impl Reply {
-    // The three numbers that begin a reply: the refusal's number, or 0 for none, the record that it carries, and 0.
-    fn begun(number: usize, at: usize) -> Reply {
+    // The three numbers that begin a reply: the refusal's number, or 0 for none, the record that it carries, and which edge of it.
+    fn begun(number: usize, at: usize, edge: usize) -> Reply {
         let nothing = Reply {
             line: Line::empty(),
         };
-        nothing.number(number).number(at).number(0)
+        nothing.number(number).number(at).number(edge)
     }
 
     // The beginning of a reply without a refusal.
     pub fn accepted() -> Reply {
-        Reply::begun(0, 0)
+        Reply::begun(0, 0, 0)
     }
 
     // The beginning of a reply with a refusal.
@@ -29,6 +29,7 @@ impl Reply {
         Reply::begun(
             refusals::refusal_number(r) as usize,
             refusals::refusal_record(r),
+            refusals::refusal_edge(r) as usize,
         )
     }
 

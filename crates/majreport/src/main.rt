@@ -40,7 +40,7 @@ fn main() {
         b"",
         b"it takes no argument",
         b"majreport < TABLE",
-        b"Reports on the majority table on standard input, of at most 8704 bytes.\nArguments: none.\nWrites `size S depth D`; or `refused N at R`, or `too long`.\n",
+        b"Reports on the majority table on standard input, of at most 8704 bytes.\nArguments: none.\nWrites `size S depth D`; or `refused N at R E`, or `too long`.\n",
     ) {
         Called::Rightly => program.end(run(program)),
         Called::Done(end) => program.end(end),

@@ -129,7 +129,7 @@ fn main() {
         b"the script's file is missing",
         b"it takes one argument, the script's file",
         b"majscript SCRIPT < TABLE > NEW",
-        b"Runs a script of rewriting steps on the majority table on standard input, of at most 8704 bytes.\nArgument: the path of the script, of at most 262144 bytes.\nWrites the bytes of the table as the script left it; and on standard error `taken T length L`, or\n`taken T refused N at R length L`, or `too long`. NEW must be another file than TABLE.\n",
+        b"Runs a script of rewriting steps on the majority table on standard input, of at most 8704 bytes.\nArgument: the path of the script, of at most 262144 bytes.\nWrites the bytes of the table as the script left it; and on standard error `taken T length L`, or\n`taken T refused N at R E length L`, or `too long`. NEW must be another file than TABLE.\n",
     ) {
         Called::Rightly => program.end(run(program)),
         Called::Done(end) => program.end(end),

@@ -80,7 +80,7 @@ fn main() {
         b"",
         b"it takes no argument",
         b"majshow < TABLE",
-        b"Shows the majority table on standard input, of at most 8704 bytes, in words.\nArguments: none.\nWrites a line a record: `x1` an input, `g4 = M(x1, !x2, 1)` a gate, the majority of three edges, `out !g6` an output;\nor `refused N at R`, or `too long`.\n",
+        b"Shows the majority table on standard input, of at most 8704 bytes, in words.\nArguments: none.\nWrites a line a record: `x1` an input, `g4 = M(x1, !x2, 1)` a gate, the majority of three edges, `out !g6` an output;\nor `refused N at R E`, or `too long`.\n",
     ) {
         Called::Rightly => program.end(run(program)),
         Called::Done(end) => program.end(end),

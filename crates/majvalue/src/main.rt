@@ -54,7 +54,7 @@ fn main() {
         b"the assignment is missing",
         b"it takes one argument, the assignment",
         b"majvalue ASSIGNMENT < TABLE",
-        b"Works out the outputs of the majority table on standard input, of at most 8704 bytes.\nArgument: the assignment, a decimal number from 0 to 4294967295, bit i-1 of which is input i.\nWrites `outputs V`, bit j-1 of V being output j; or `refused N at R`, or `too long`.\n",
+        b"Works out the outputs of the majority table on standard input, of at most 8704 bytes.\nArgument: the assignment, a decimal number from 0 to 4294967295, bit i-1 of which is input i.\nWrites `outputs V`, bit j-1 of V being output j; or `refused N at R E`, or `too long`.\n",
     ) {
         Called::Rightly => program.end(run(program)),
         Called::Done(end) => program.end(end),

@@ -1,4 +1,4 @@
--- The numbers of each reply (SPEC 10): the refusal and its record, 0 and 0 for none, and then the call's own, all 0 where it is refused.
+-- The numbers of each reply (SPEC 10): the refusal, its record and its edge, all 0 for none, and then the call's own, all 0 where it is refused.
 use Prim.Native.Nat.{ℕ}
 use Rattle.refusals.specs.Reply.{Reply, accepted, refused}
 use Rattle.majority.specs.declared.Counts.{Counts}
@@ -22,6 +22,11 @@ abbrev pub place : End → ℕ
 place finished = 0
 place (stopped w) = w .place
 
+-- which edge of it, and 0 for none
+abbrev pub edge : End → ℕ
+edge finished = 0
+edge (stopped w) = w .edge
+
 -- how a call ended
 abbrev pub endOf : {A : Type 0} → Reply A → End
 endOf (accepted x) = finished
@@ -37,32 +42,34 @@ checkedReply r =
     record {
       refusal = number (endOf r);
       at = place (endOf r);
+      edge = edge (endOf r);
       inputs = orZero r (λ c. c .inputs);
       gates = orZero r (λ c. c .gates);
       outputs = orZero r (λ c. c .outputs);
     }
 
 abbrev pub valuedReply : Reply ℕ → Valued
-valuedReply r = record { refusal = number (endOf r); at = place (endOf r); outputs = orZero r (λ v. v) }
+valuedReply r = record { refusal = number (endOf r); at = place (endOf r); edge = edge (endOf r); outputs = orZero r (λ v. v) }
 
 abbrev pub reportedReply : Reply Size → Reported
 reportedReply r =
     record {
       refusal = number (endOf r);
       at = place (endOf r);
+      edge = edge (endOf r);
       size = orZero r (λ s. s .gates);
       depth = orZero r (λ s. s .depth);
     }
 
 abbrev pub steppedReply : Reply ℕ → Stepped
-steppedReply r = record { refusal = number (endOf r); at = place (endOf r); used = orZero r (λ used. used) }
+steppedReply r = record { refusal = number (endOf r); at = place (endOf r); edge = edge (endOf r); used = orZero r (λ used. used) }
 
 -- a script's own numbers stand also where it was stopped
 abbrev pub ranReply : Run → Ran
-ranReply r = record { refusal = number (r .end); at = place (r .end); taken = r .taken; used = r .used }
+ranReply r = record { refusal = number (r .end); at = place (r .end); edge = edge (r .end); taken = r .taken; used = r .used }
 
 abbrev pub writtenReply : Reply ℕ → Written
-writtenReply r = record { refusal = number (endOf r); at = place (endOf r); length = orZero r (λ l. l) }
+writtenReply r = record { refusal = number (endOf r); at = place (endOf r); edge = edge (endOf r); length = orZero r (λ l. l) }
 
 abbrev pub deepReply : Reply ℕ → Deep
-deepReply r = record { refusal = number (endOf r); at = place (endOf r); depth = orZero r (λ d. d) }
+deepReply r = record { refusal = number (endOf r); at = place (endOf r); edge = edge (endOf r); depth = orZero r (λ d. d) }

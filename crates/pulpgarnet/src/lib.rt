@@ -1,4 +1,5 @@
 // The static library: every call for C, on pointers with lengths (include/pulpgarnet.h). Each reply is a struct of numbers.
+use refusals::refusal_edge;
 use refusals::refusal_number;
 use refusals::refusal_record;
 use rewriting::Ending;
@@ -16,11 +17,12 @@ ghost use Rattle.rewriting.specs.Script.{scriptRun};
 ghost use Rattle.rm3.specs.Calls.{translateOf, translateBytes, depthOf};
 ghost use Rattle.pulpgarnet.specs.Replies.{checkedReply, valuedReply, reportedReply, steppedReply, ranReply, writtenReply, deepReply};
 
-// Each struct begins with the refusal's number, 0 for none, and the record that it carries, which the header calls `record`.
+// Each struct begins with the refusal's number, 0 for none, the record that it carries, which the header calls `record`, and which edge of it.
 #[repr(C)]
 pub struct Checked {
     pub refusal: u32,
     pub at: usize,
+    pub edge: u32,
     pub inputs: usize,
     pub gates: usize,
     pub outputs: usize,
@@ -30,6 +32,7 @@ pub struct Checked {
 pub struct Valued {
     pub refusal: u32,
     pub at: usize,
+    pub edge: u32,
     pub outputs: u32,
 }
 
@@ -37,6 +40,7 @@ pub struct Valued {
 pub struct Reported {
     pub refusal: u32,
     pub at: usize,
+    pub edge: u32,
     pub size: usize,
     pub depth: usize,
 }
@@ -45,6 +49,7 @@ pub struct Reported {
 pub struct Stepped {
     pub refusal: u32,
     pub at: usize,
+    pub edge: u32,
     pub used: usize,
 }
 
@@ -52,6 +57,7 @@ pub struct Stepped {
 pub struct Ran {
     pub refusal: u32,
     pub at: usize,
+    pub edge: u32,
     pub taken: usize,
     pub used: usize,
 }
@@ -60,6 +66,7 @@ pub struct Ran {
 pub struct Written {
     pub refusal: u32,
     pub at: usize,
+    pub edge: u32,
     pub length: usize,
 }
 
@@ -67,6 +74,7 @@ pub struct Written {
 pub struct Deep {
     pub refusal: u32,
     pub at: usize,
+    pub edge: u32,
     pub depth: usize,
 }
 
@@ -79,6 +87,7 @@ pub extern "C" fn pulpgarnet_check(table: &[u8], used: usize) -> Checked
         tables::Checked::Accepted(counts) => Checked {
             refusal: 0,
             at: 0,
+            edge: 0,
             inputs: counts.inputs,
             gates: counts.gates,
             outputs: counts.outputs,
@@ -86,6 +95,7 @@ pub extern "C" fn pulpgarnet_check(table: &[u8], used: usize) -> Checked
         tables::Checked::Refused(refusal) => Checked {
             refusal: refusal_number(refusal),
             at: refusal_record(refusal),
+            edge: refusal_edge(refusal),
             inputs: 0,
             gates: 0,
             outputs: 0,
@@ -100,11 +110,13 @@ fn value_reply(answer: questions::Valued) -> Valued
         questions::Valued::Outputs(outputs) => Valued {
             refusal: 0,
             at: 0,
+            edge: 0,
             outputs,
         },
         questions::Valued::Refused(refusal) => Valued {
             refusal: refusal_number(refusal),
             at: refusal_record(refusal),
+            edge: refusal_edge(refusal),
             outputs: 0,
         },
     }
@@ -125,12 +137,14 @@ fn report_reply(answer: questions::Reported) -> Reported
         questions::Reported::Whole(size) => Reported {
             refusal: 0,
             at: 0,
+            edge: 0,
             size: size.gates,
             depth: size.depth,
         },
         questions::Reported::Refused(refusal) => Reported {
             refusal: refusal_number(refusal),
             at: refusal_record(refusal),
+            edge: refusal_edge(refusal),
             size: 0,
             depth: 0,
         },
@@ -162,11 +176,13 @@ pub extern "C" fn pulpgarnet_step(
         rewriting::Stepped::Used(used) => Stepped {
             refusal: 0,
             at: 0,
+            edge: 0,
             used,
         },
         rewriting::Stepped::Refused(refusal) => Stepped {
             refusal: refusal_number(refusal),
             at: refusal_record(refusal),
+            edge: refusal_edge(refusal),
             used: 0,
         },
     }
@@ -184,12 +200,14 @@ pub extern "C" fn pulpgarnet_script(table: &mut [u8], used: usize, steps: &[u8])
         Ending::Finished => Ran {
             refusal: 0,
             at: 0,
+            edge: 0,
             taken: done.taken,
             used: done.used,
         },
         Ending::Stopped(refusal) => Ran {
             refusal: refusal_number(refusal),
             at: refusal_record(refusal),
+            edge: refusal_edge(refusal),
             taken: done.taken,
             used: done.used,
         },
@@ -206,11 +224,13 @@ pub extern "C" fn pulpgarnet_translate(table: &[u8], used: usize, out: &mut [u8]
         rm3::Translated::Length(length) => Written {
             refusal: 0,
             at: 0,
+            edge: 0,
             length,
         },
         rm3::Translated::Refused(refusal) => Written {
             refusal: refusal_number(refusal),
             at: refusal_record(refusal),
+            edge: refusal_edge(refusal),
             length: 0,
         },
     }
@@ -225,11 +245,13 @@ pub extern "C" fn pulpgarnet_rm3_depth(table: &[u8], used: usize) -> Deep
         rm3::Depth::Depth(depth) => Deep {
             refusal: 0,
             at: 0,
+            edge: 0,
             depth,
         },
         rm3::Depth::Refused(refusal) => Deep {
             refusal: refusal_number(refusal),
             at: refusal_record(refusal),
+            edge: refusal_edge(refusal),
             depth: 0,
         },
     }

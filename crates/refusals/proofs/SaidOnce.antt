@@ -12,7 +12,7 @@ use Rattle.refusals.specs.Reply.{Reply, accepted, refused}
 pub refusalOf : Why → Refusal
 refusalOf w =
     let i = w .place in
-    getD (Length ∷ Kind i ∷ Count ∷ NotZero i ∷ Edge i ∷ Assignment ∷ Rule ∷ Field ∷ Form ∷ Gates ∷ Room ∷ Script ∷ []) (w .number - 1) Length
+    getD (Length ∷ Kind i ∷ Count ∷ NotZero i ∷ Edge i (w .edge) ∷ Assignment ∷ Rule ∷ Field ∷ Form ∷ Gates ∷ Room ∷ Script ∷ []) (w .number - 1) Length
 
 pub refusal-back : (r : Refusal) → refusalOf (whyOf r) ≡ r
 unfolding refusalOf
@@ -20,7 +20,7 @@ refusal-back Length = refl
 refusal-back (Kind i) = refl
 refusal-back Count = refl
 refusal-back (NotZero i) = refl
-refusal-back (Edge i) = refl
+refusal-back (Edge i e) = refl
 refusal-back Assignment = refl
 refusal-back Rule = refl
 refusal-back Field = refl

@@ -106,7 +106,7 @@ fn main() {
         b"",
         b"it takes no argument",
         b"rm3list < TABLE",
-        b"Lists the RM3 table of the majority table on standard input, of at most 8704 bytes.\nArguments: none.\nWrites `inputs N ops P outputs O depth D`, a line an operation, its number and three operands, and a line an output,\n`out` and its operand; or `refused N at R`, or `too long`.\n",
+        b"Lists the RM3 table of the majority table on standard input, of at most 8704 bytes.\nArguments: none.\nWrites `inputs N ops P outputs O depth D`, a line an operation, its number and three operands, and a line an output,\n`out` and its operand; or `refused N at R E`, or `too long`.\n",
     ) {
         Called::Rightly => program.end(run(program)),
         Called::Done(end) => program.end(end),

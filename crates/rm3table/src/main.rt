@@ -34,7 +34,7 @@ fn main() {
         b"",
         b"it takes no argument",
         b"rm3table < TABLE > RM3",
-        b"Writes the RM3 table of the majority table on standard input, of at most 8704 bytes.\nArguments: none.\nWrites the bytes of the RM3 table; or, on standard error, `refused N at R`, or `too long`.\n",
+        b"Writes the RM3 table of the majority table on standard input, of at most 8704 bytes.\nArguments: none.\nWrites the bytes of the RM3 table; or, on standard error, `refused N at R E`, or `too long`.\n",
     ) {
         Called::Rightly => program.end(run(program)),
         Called::Done(end) => program.end(end),

@@ -58,7 +58,7 @@ unfolding checkFields
 fields-counts found rs c e =
     let last = found .inputs + found .gates in
     let bad = first (faultyAt last rs) (length rs) in
-    let h = passed (ltb bad (length rs)) (whyAt (faultOf last bad (recordAt rs bad)) bad) (accepted found) c e .1 in
+    let h = passed (ltb bad (length rs)) (faultOf last bad (recordAt rs bad)) (accepted found) c e .1 in
     cc
 
 counted-accepted : (claim : Counts) (rs : List Record) (found c : Counts) → checkCounted claim rs found ≡ accepted c → (claim ≡ found) × (found ≡ c)

@@ -16,10 +16,11 @@ ghost use mathlib.Core.Path.{_≡_};
 ghost use Prim.Native.Nat.{_+_, _-_, _*_, _≤_};
 ghost use lib.ListN.{length};
 ghost use Rattle.majority.specs.Seek.{firstFrom, first};
+ghost use Rattle.refusals.specs.Why.{whyOf};
 ghost use Rattle.refusals.specs.Reply.{accepted};
-ghost use Rattle.majority.specs.Check.{badCounts, notZero, past, badEdge, faultOf, faultyAt, checkFields, checkKinds};
+ghost use Rattle.majority.specs.Check.{badCounts, notZero, past, firstOf, badEdge, faulty, faultOf, faultyAt, checkFields, checkKinds};
 ghost use Rattle.tables.specs.Bytes.{tableOf};
-ghost use Rattle.tables.specs.Said.{faultNumber, saidCheck};
+ghost use Rattle.tables.specs.Said.{saidCheck};
 ghost use Rattle.tables.specs.inner.Runs.{runEnd, faultyAs};
 ghost use Rattle.tables.specs.Claimed.{otherCounts, checkCounted};
 ghost use Rattle.tables.specs.inner.Under.{claimedOf, checkUnder, checkUsed};
@@ -67,40 +68,61 @@ fn names_past(last: usize, edge: u16) -> bool
     2 * last + 1 < edge as usize
 }
 
-// An edge of record i names a node it may not, in a table whose last node is last.
-fn bad_edge(last: usize, i: usize, r: Record) -> bool
+// Which of three tests is the first that holds, counted from 1; 0 where none does.
+fn first_of(a: bool, b: bool, c: bool) -> u32
+    ensures { λ r. ⌜ r ≡ firstOf a b c ⌝ }
+{
+    if a {
+        return 1;
+    }
+    if b {
+        return 2;
+    }
+    if c {
+        return 3;
+    }
+    0
+}
+
+// Which edge of record i names a node it may not, in a table whose last node is last: the first, counted from 1; 0 where none does.
+fn bad_edge(last: usize, i: usize, r: Record) -> u32
     requires { ⌜ (2 * last + 1 ≤ 18446744073709551615) × (2 * i + 1 ≤ 18446744073709551615) ⌝ }
-    ensures { λ b. ⌜ b ≡ badEdge last i r ⌝ }
+    ensures { λ e. ⌜ e ≡ badEdge last i r ⌝ }
 {
     if r.kind == INPUT {
-        return false;
+        return 0;
     }
     if r.kind == GATE {
-        return names_past(i, r.e1) | names_past(i, r.e2) | names_past(i, r.e3);
+        return first_of(
+            names_past(i, r.e1),
+            names_past(i, r.e2),
+            names_past(i, r.e3),
+        );
     }
-    names_past(last, r.e1)
+    first_of(names_past(last, r.e1), false, false)
 }
 
-// What is wrong with a record.
-pub(crate) enum Fault {
-    Nothing,
-    NotZero,
-    Edge,
-}
-
-fn fault_of(last: usize, i: usize, r: Record) -> Fault
+// Record i has a fault.
+fn is_faulty(last: usize, i: usize, r: Record) -> bool
     requires { ⌜ (2 * last + 1 ≤ 18446744073709551615) × (2 * i + 1 ≤ 18446744073709551615) ⌝ }
-    ensures { λ f. ⌜ faultNumber f ≡ faultOf last i r ⌝ }
+    ensures { λ b. ⌜ b ≡ faulty last i r ⌝ }
 {
     let filled = not_zero(r);
-    let astray = bad_edge(last, i, r);
+    let edge = bad_edge(last, i, r);
+    filled | (0 < edge)
+}
+
+// Why record i is refused, which has a fault.
+fn fault_of(last: usize, i: usize, r: Record) -> Refusal
+    requires { ⌜ (2 * last + 1 ≤ 18446744073709551615) × (2 * i + 1 ≤ 18446744073709551615) ⌝ }
+    ensures { λ w. ⌜ whyOf w ≡ faultOf last i r ⌝ }
+{
+    let filled = not_zero(r);
+    let edge = bad_edge(last, i, r);
     if filled {
-        return Fault::NotZero;
+        return Refusal::NotZero(i);
     }
-    if astray {
-        return Fault::Edge;
-    }
-    Fault::Nothing
+    Refusal::Edge(i, edge)
 }
 
 // The first record from `from` on, up to `to`, that has a fault as one of this kind; `to` where there is none.
@@ -110,9 +132,8 @@ fn run_fault(s: &[u8], from: usize, to: usize, kind: u16, last: usize) -> usize
 {
     let mut i = from;
     while i < to {
-        match fault_of(last, i, record_as(s, i, kind)) {
-            Fault::Nothing => {}
-            _ => return i,
+        if is_faulty(last, i, record_as(s, i, kind)) {
+            return i;
         }
         i += 1;
     }
@@ -145,11 +166,7 @@ fn check_fields(s: &[u8], n: usize, counts: Counts) -> Checked
     let last = counts.inputs + counts.gates;
     let bad = first_fault(s, n, counts);
     if bad < n {
-        match fault_of(last, bad, record_at(s, bad)) {
-            Fault::Nothing => {}
-            Fault::NotZero => return Checked::Refused(Refusal::NotZero(bad)),
-            Fault::Edge => return Checked::Refused(Refusal::Edge(bad)),
-        }
+        return Checked::Refused(fault_of(last, bad, record_at(s, bad)));
     }
     Checked::Accepted(counts)
 }

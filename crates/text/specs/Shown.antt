@@ -37,16 +37,23 @@ places n = firstFrom (λ k. ltb n (10 ^ k)) 1 20
 unfoldable pub decimal : ℕ → List ℕ
 decimal n = digits 10 (places n) n
 
--- `refused ` and ` at ` in ASCII
+-- `refused `, ` at ` and a blank in ASCII
 abbrev pub refusedWord : List ℕ
 refusedWord = 114 ∷ 101 ∷ 102 ∷ 117 ∷ 115 ∷ 101 ∷ 100 ∷ 32 ∷ []
 
 abbrev pub atWord : List ℕ
 atWord = 32 ∷ 97 ∷ 116 ∷ 32 ∷ []
 
--- the line with a refusal after its text: its number and the record that it carries
+abbrev pub blank : List ℕ
+blank = 32 ∷ []
+
+-- the line with a word and a number after its text
+abbrev pub withNumber : Line → List ℕ → ℕ → Line
+withNumber l word n = withWord (withWord l word) (decimal n)
+
+-- the line with a refusal after its text: its number, the record that it carries, and which edge of it
 unfoldable pub withRefusal : Line → Why → Line
-withRefusal l w = withWord (withWord (withWord (withWord l refusedWord) (decimal (w .number))) atWord) (decimal (w .place))
+withRefusal l w = withNumber (withNumber (withNumber l refusedWord (w .number)) atWord (w .place)) blank (w .edge)
 
 -- the low 32 bits of a number, low byte first
 abbrev pub fourBytes : ℕ → List ℕ

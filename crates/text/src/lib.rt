@@ -4,8 +4,9 @@ mod spelling;
 ghost use mathlib.Core.Path.{_≡_};
 ghost use Prim.Native.Nat.{_%_, min};
 ghost use Rattle.refusals.specs.Why.{whyOf};
-ghost use Rattle.text.specs.Shown.{lineOf, appended, emptyLine, withWord, decimal, withRefusal, fourBytes};
+ghost use Rattle.text.specs.Shown.{lineOf, appended, emptyLine, withWord, decimal, withNumber, withRefusal, fourBytes};
 use refusals::Refusal;
+use refusals::refusal_edge;
 use refusals::refusal_number;
 use refusals::refusal_record;
 pub use spelling::Decimal;
@@ -59,14 +60,20 @@ impl Line {
         self.word(&[low(n), low(n / 256), low(n / 65536), low(n / 16777216)])
     }
 
-    // The line with a refusal after its text: its number, and the record that it carries.
+    // The line with a word and a number after its text.
+    fn said(self, word: &[u8], n: u64) -> Line
+        ensures { λ r. ⌜ r ≡ withNumber self (now (word .entry)) n ⌝ }
+    {
+        self.word(word).number(n)
+    }
+
+    // The line with a refusal after its text: its number, the record that it carries, and which edge of it.
     pub fn refused(self, refusal: Refusal) -> Line
         ensures { λ r. ⌜ r ≡ withRefusal self (whyOf refusal) ⌝ }
     {
-        self.word(b"refused ")
-            .number(refusal_number(refusal) as u64)
-            .word(b" at ")
-            .number(refusal_record(refusal) as u64)
+        self.said(b"refused ", refusal_number(refusal) as u64)
+            .said(b" at ", refusal_record(refusal) as u64)
+            .said(b" ", refusal_edge(refusal) as u64)
     }
 
     // The bytes, of which the first so many as `length` says are the text.

@@ -21,12 +21,15 @@ refusal-number-requires c κs = search needs
 refusal-record-requires : tie.Need-refusal-record-requires
 refusal-record-requires c κs = search needs
 
+refusal-edge-requires : tie.Need-refusal-edge-requires
+refusal-edge-requires c κs = search needs
+
 returns : tie.Need-returns
 returns c = told checkedReply saidCheck (c .before .counts .given .1) (c .before .before .before .check .ensures)
 
 returns-2 : tie.Need-returns-2
-returns-2 c = rw (c .before .refusal-number .ensures, c .refusal-record .ensures)
-    (told checkedReply saidCheck (c .before .before .before .refusal .given .1) (c .before .before .before .before .before .check .ensures))
+returns-2 c = rw (c .before .before .refusal-number .ensures, c .before .refusal-record .ensures, c .refusal-edge .ensures)
+    (told checkedReply saidCheck (c .before .before .before .before .refusal .given .1) (c .before .before .before .before .before .before .check .ensures))
 
 pub pulpgarnet-check-spec : {M : Type 1} → statement M
 pulpgarnet-check-spec =
@@ -37,5 +40,6 @@ pulpgarnet-check-spec =
     enum-known-refusal
     refusal-number-requires
     refusal-record-requires
+    refusal-edge-requires
     returns
     returns-2)

@@ -21,12 +21,15 @@ refusal-number-requires c κs = search needs
 refusal-record-requires : tie.Need-refusal-record-requires
 refusal-record-requires c κs = search needs
 
+refusal-edge-requires : tie.Need-refusal-edge-requires
+refusal-edge-requires c κs = search needs
+
 returns : tie.Need-returns
 returns c = told deepReply saidDepth (c .before .depth .given .1) (c .before .before .before .rm3-depth .ensures)
 
 returns-2 : tie.Need-returns-2
-returns-2 c = rw (c .before .refusal-number .ensures, c .refusal-record .ensures)
-    (told deepReply saidDepth (c .before .before .before .refusal .given .1) (c .before .before .before .before .before .rm3-depth .ensures))
+returns-2 c = rw (c .before .before .refusal-number .ensures, c .before .refusal-record .ensures, c .refusal-edge .ensures)
+    (told deepReply saidDepth (c .before .before .before .before .refusal .given .1) (c .before .before .before .before .before .before .rm3-depth .ensures))
 
 pub pulpgarnet-rm3-depth-spec : {M : Type 1} → statement M
 pulpgarnet-rm3-depth-spec =
@@ -37,5 +40,6 @@ pulpgarnet-rm3-depth-spec =
     enum-known-refusal
     refusal-number-requires
     refusal-record-requires
+    refusal-edge-requires
     returns
     returns-2)

@@ -21,6 +21,9 @@ refusal-number-requires c κs = search needs
 refusal-record-requires : tie.Need-refusal-record-requires
 refusal-record-requires c κs = search needs
 
+refusal-edge-requires : tie.Need-refusal-edge-requires
+refusal-edge-requires c κs = search needs
+
 same-length : tie.Need-same-length
 same-length c = search needs
 
@@ -34,9 +37,9 @@ same-length-2 c = search needs
 
 returns-2 : tie.Need-returns-2
 returns-2 c =
-    let told-ending = c .before .before .before in
+    let told-ending = c .before .before .before .before in
     let done = told-ending .before .before .before .before in (
-      rw (c .before .refusal-number .ensures, c .refusal-record .ensures) (rw (told-ending .ending .given .1) at (ap ranReply (done .script .ensures))),
+      rw (c .before .before .refusal-number .ensures, c .before .refusal-record .ensures, c .refusal-edge .ensures) (rw (told-ending .ending .given .1) at (ap ranReply (done .script .ensures))),
       ap (λ (r : Run). r .bytes) (done .script .ensures),
     )
 
@@ -49,6 +52,7 @@ pulpgarnet-script-spec =
     enum-known-ending
     refusal-number-requires
     refusal-record-requires
+    refusal-edge-requires
     same-length
     returns
     same-length-2

@@ -21,6 +21,9 @@ refusal-number-requires c κs = search needs
 refusal-record-requires : tie.Need-refusal-record-requires
 refusal-record-requires c κs = search needs
 
+refusal-edge-requires : tie.Need-refusal-edge-requires
+refusal-edge-requires c κs = search needs
+
 same-length : tie.Need-same-length
 same-length c = search needs
 
@@ -34,9 +37,9 @@ same-length-2 c = search needs
 
 returns-2 : tie.Need-returns-2
 returns-2 c =
-    let told-refusal = c .before .before .before in
+    let told-refusal = c .before .before .before .before in
     let done = told-refusal .before .before .before .before in (
-      rw (c .before .refusal-number .ensures, c .refusal-record .ensures)
+      rw (c .before .before .refusal-number .ensures, c .before .refusal-record .ensures, c .refusal-edge .ensures)
           (told steppedReply saidStep (told-refusal .refusal .given .1) (done .step .ensures .0)),
       done .step .ensures .1,
     )
@@ -50,6 +53,7 @@ pulpgarnet-step-spec =
     enum-known-refusal
     refusal-number-requires
     refusal-record-requires
+    refusal-edge-requires
     same-length
     returns
     same-length-2

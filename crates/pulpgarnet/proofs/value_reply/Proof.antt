@@ -19,12 +19,15 @@ refusal-number-requires c κs = search needs
 refusal-record-requires : tie.Need-refusal-record-requires
 refusal-record-requires c κs = search needs
 
+refusal-edge-requires : tie.Need-refusal-edge-requires
+refusal-edge-requires c κs = search needs
+
 returns : tie.Need-returns
 returns c = told valuedReply saidValue (c .before .answer .given .1) refl
 
 returns-2 : tie.Need-returns-2
-returns-2 c = rw (c .before .refusal-number .ensures, c .refusal-record .ensures)
-    (told valuedReply saidValue (c .before .before .before .answer2 .given .1) refl)
+returns-2 c = rw (c .before .before .refusal-number .ensures, c .before .refusal-record .ensures, c .refusal-edge .ensures)
+    (told valuedReply saidValue (c .before .before .before .before .answer2 .given .1) refl)
 
 pub value-reply-spec : {M : Type 1} → statement M
 value-reply-spec =
@@ -34,5 +37,6 @@ value-reply-spec =
     enum-known-answer-2
     refusal-number-requires
     refusal-record-requires
+    refusal-edge-requires
     returns
     returns-2)

@@ -5,7 +5,7 @@ use mathlib.Core.List.{List}
 use lib.Dec.{eqb}
 use Rattle.majority.specs.Seek.{firstFrom}
 use Rattle.majority.specs.Table.{recordAt}
-use Rattle.majority.specs.Check.{faultOf}
+use Rattle.majority.specs.Check.{faulty}
 use Rattle.majority.specs.declared.Record.{Record}
 use Rattle.tables.specs.Bytes.{recordAs}
 
@@ -19,4 +19,4 @@ runEnd rs n k from = firstFrom (otherKind rs k) from (n - from)
 
 -- record i of the bytes xs has a fault as one of kind k, in a table whose last node is last
 unfoldable pub faultyAs : List ℕ → ℕ → ℕ → ℕ → Bool
-faultyAs xs k last i = not (eqb (faultOf last i (recordAs xs i k)) 0)
+faultyAs xs k last i = faulty last i (recordAs xs i k)

@@ -17,14 +17,7 @@ returns c = rw (sym (c .before .before .not-zero .ensures) ∙ c .if1 .taken)
 
 returns-2 : tie.Need-returns-2
 unfolding faultOf
-returns-2 c = let d = c .before .before in
-    rw (sym (d .before .not-zero .ensures) ∙ c .before .if1 .left, sym (d .bad-edge .ensures) ∙ c .if2 .taken)
-
-returns-3 : tie.Need-returns-3
-unfolding faultOf
-returns-3 c = let d = c .before .before in
-    rw (sym (d .before .not-zero .ensures) ∙ c .before .if1 .left, sym (d .bad-edge .ensures) ∙ c .if2 .left)
+returns-2 c = rw (sym (c .before .before .not-zero .ensures) ∙ c .if1 .left, c .before .bad-edge .ensures)
 
 pub fault-of-spec : {M : Type 1} → statement M
-fault-of-spec =
-    tie.close (tie.spec not-zero-requires bad-edge-requires returns returns-2 returns-3)
+fault-of-spec = tie.close (tie.spec not-zero-requires bad-edge-requires returns returns-2)

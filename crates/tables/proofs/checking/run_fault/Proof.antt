@@ -2,21 +2,11 @@
 use borrow.Author.Needs.{needs}
 use Prim.Native.Nat.{_-_, _≤_}
 use mathlib.Core.Path.{_≡_, sym, ap, _∙_}
-use mathlib.Core.Bool.{true, false, not}
-use mathlib.Core.Logic.{⊎-elim}
-use mathlib.Core.List.{[], _∷_}
-use native.Mathlib.Omega.{arith}
-use borrow.Author.Tests.{eq-eqb, ne-eqb}
-use types.Run.{OneOf}
-use denote.Enum.Declared.{tagOf}
+use mathlib.Core.Bool.{true, false}
 use Rattle.majority.specs.Seek.{firstFrom}
-use Rattle.majority.specs.Check.{faultOf}
+use Rattle.majority.specs.Check.{faulty}
 use Rattle.tables.specs.inner.Runs.{faultyAs}
-use Rattle.tables.specs.Said.{faultNumber}
-use Rattle.tables.specs.declared.checking.Fault.{Fault}
-use Rattle.tables.specs.declared.checking.Fault.the-variants.{Nothing, NotZero, Edge}
 use Rattle.majority.proofs.Seek.{Seeking, seek-stop, seek-next, seek-end}
-use Rattle.tables.proofs.checking.Fault.{the-type}
 use Rattle.tables.proofs.checking.run_fault.Statement.{statement}
 use Rattle.tables.proofs.checking.run_fault.Tie as tie
 
@@ -32,24 +22,15 @@ loop-holds c = search needs
 record-as-requires : tie.Need-record-as-requires Inv-loop μ-loop
 record-as-requires c κs = search needs
 
-fault-of-requires : tie.Need-fault-of-requires Inv-loop μ-loop
-fault-of-requires c κs = search needs
-
-enum-told : tie.Need-enum-told Inv-loop μ-loop
-enum-told c = search needs
-
--- a fault that is matched as another than `Nothing`
-some-fault : (f : Fault) → OneOf (1 ∷ 2 ∷ []) (tagOf the-type f) → faultNumber f ≡ 0 → ⊥
-some-fault Nothing h e = ⊎-elim (λ q. omega arith) (λ q. omega arith) h
-some-fault NotZero h e = omega arith
-some-fault Edge h e = omega arith
+is-faulty-requires : tie.Need-is-faulty-requires Inv-loop μ-loop
+is-faulty-requires c κs = search needs
 
 returns : tie.Need-returns Inv-loop μ-loop
 unfolding faultyAs
 returns c = let l = c .before .before .before .before in
     let a = l .before .before .args in
     let here : faultyAs (a .s .now) (a .kind) (a .last) (l .loop .i) ≡ true =
-    ap not (ne-eqb _ _ (λ e. some-fault (c .before .fault-of .result) (c .match .keys2) (c .before .fault-of .ensures ∙ ap (faultOf _ (l .loop .i)) (c .before .before .record-as .ensures) ∙ e)))
+    ap (faulty (a .last) (l .loop .i)) (sym (c .before .before .record-as .ensures)) ∙ sym (c .before .is-faulty .ensures) ∙ c .if1 .taken
     in
     sym (seek-stop _ _ _ _ (c .before .before .before .loop-test .taken) here (l .loop .inv .1))
 
@@ -61,12 +42,12 @@ loop-less c = search needs
 
 loop-again : tie.Need-loop-again Inv-loop μ-loop
 unfolding faultyAs
-loop-again c = let l = c .before .before .before .before .before in
+loop-again c = let l = c .before .before .before .before in
     let a = l .before .before .args in
     let here : faultyAs (a .s .now) (a .kind) (a .last) (l .loop .i) ≡ false =
-    ap not (eq-eqb _ _ (ap (faultOf _ (l .loop .i)) (sym (c .before .before .before .record-as .ensures)) ∙ sym (c .before .before .fault-of .ensures) ∙ ap faultNumber (c .enum-told .given .1)))
+    ap (faulty (a .last) (l .loop .i)) (sym (c .before .before .record-as .ensures)) ∙ sym (c .before .is-faulty .ensures) ∙ c .if1 .left
     in
-    (search needs, seek-next _ _ _ _ (c .before .before .before .before .loop-test .taken) here (l .loop .inv .1))
+    (search needs, seek-next _ _ _ _ (c .before .before .before .loop-test .taken) here (l .loop .inv .1))
 
 returns-2 : tie.Need-returns-2 Inv-loop μ-loop
 returns-2 c = sym (seek-end _ _ _ _ (c .loop-test .left) (c .before .loop .inv .0) (c .before .loop .inv .1))
@@ -79,8 +60,7 @@ run-fault-spec =
     μ-loop
     loop-holds
     record-as-requires
-    fault-of-requires
-    enum-told
+    is-faulty-requires
     returns
     add-i
     loop-less

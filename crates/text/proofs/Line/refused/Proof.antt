@@ -1,65 +1,68 @@
--- `text::Line::refused` meets its contract: two words, each with a number behind it. Assumes nothing.
-use Prim.Native.Nat.{ℕ}
-use mathlib.Core.Path.{_∙_, ap}
-use Rattle.refusals.specs.Why.{refusalNumber, refusalRecord}
-use Rattle.text.specs.Shown.{withRefusal, withWord, decimal, atWord}
+-- `text::Line::refused` meets its contract: three words, each with a number behind it.
+use mathlib.Core.Path.{ap, _∙_}
+use Rattle.refusals.specs.Why.{refusalRecord, refusalEdge}
+use Rattle.text.specs.Shown.{refusedWord, atWord, blank, withNumber, withRefusal}
 use Rattle.text.specs.declared.Line.{Line}
 use borrow.Author.Needs.{needs}
 use Rattle.text.proofs.Line.refused.Statement.{statement}
 use Rattle.text.proofs.Line.refused.Tie as tie
 
-slice-aggregate-word : tie.Need-slice-aggregate-word
-slice-aggregate-word c = search needs
-
-word-requires : tie.Need-word-requires
-word-requires c κs = search needs
+slice-aggregate-said : tie.Need-slice-aggregate-said
+slice-aggregate-said c = search needs
 
 refusal-number-requires : tie.Need-refusal-number-requires
 refusal-number-requires c κs = search needs
 
-cast-number : tie.Need-cast-number
-cast-number c = search needs
+cast-said : tie.Need-cast-said
+cast-said c = search needs
 
-number-requires : tie.Need-number-requires
-number-requires c κs = search needs
+said-requires : tie.Need-said-requires
+said-requires c κs = search needs
 
-slice-aggregate-word-2 : tie.Need-slice-aggregate-word-2
-slice-aggregate-word-2 c = search needs
-
-word-requires-2 : tie.Need-word-requires-2
-word-requires-2 c κs = search needs
+slice-aggregate-said-2 : tie.Need-slice-aggregate-said-2
+slice-aggregate-said-2 c = search needs
 
 refusal-record-requires : tie.Need-refusal-record-requires
 refusal-record-requires c κs = search needs
 
-number-requires-2 : tie.Need-number-requires-2
-number-requires-2 c κs = search needs
+said-requires-2 : tie.Need-said-requires-2
+said-requires-2 c κs = search needs
+
+slice-aggregate-said-3 : tie.Need-slice-aggregate-said-3
+slice-aggregate-said-3 c = search needs
+
+refusal-edge-requires : tie.Need-refusal-edge-requires
+refusal-edge-requires c κs = search needs
+
+cast-said-2 : tie.Need-cast-said-2
+cast-said-2 c = search needs
+
+said-requires-3 : tie.Need-said-requires-3
+said-requires-3 c κs = search needs
 
 returns : tie.Need-returns
 unfolding withRefusal
 returns c =
-    let record-of = c .before in
-    let number-of = c .before .before .before .before in
-    let word-of = number-of .before .before in
-    let number = number-of .number .ensures ∙ ap (λ (k : ℕ). withWord (word-of .word .result) (decimal k)) (number-of .before .refusal-number .ensures) in
-    let refusal = word-of .before .before .args .refusal in
-    let both = number ∙ ap (λ (l : Line). withWord l (decimal (refusalNumber refusal))) (word-of .word .ensures) in
-    let third = c .before .before .word2 .ensures ∙ ap (λ (l : Line). withWord l atWord) both in
-    c .number2 .ensures
-    ∙ ap (λ (k : ℕ). withWord (c .before .before .word2 .result) (decimal k)) (record-of .refusal-record .ensures)
-    ∙ ap (λ (l : Line). withWord l (decimal (refusalRecord refusal))) third
+    let at = c .before .before .before in
+    let first = at .before .before .before in
+    let refusal = first .before .before .before .args .refusal in
+    let one = first .said .ensures ∙ ap (withNumber _ refusedWord) (first .before .refusal-number .ensures) in
+    let two = at .said2 .ensures ∙ ap (withNumber _ atWord) (at .before .refusal-record .ensures) ∙ ap (λ (l : Line). withNumber l atWord (refusalRecord refusal)) one in
+    c .said3 .ensures ∙ ap (withNumber _ blank) (c .before .refusal-edge .ensures) ∙ ap (λ (l : Line). withNumber l blank (refusalEdge refusal)) two
 
 pub refused-spec : {M : Type 1} → statement M
 refused-spec =
     tie.close
     (tie.spec
-    slice-aggregate-word
-    word-requires
+    slice-aggregate-said
     refusal-number-requires
-    cast-number
-    number-requires
-    slice-aggregate-word-2
-    word-requires-2
+    cast-said
+    said-requires
+    slice-aggregate-said-2
     refusal-record-requires
-    number-requires-2
+    said-requires-2
+    slice-aggregate-said-3
+    refusal-edge-requires
+    cast-said-2
+    said-requires-3
     returns)
