@@ -36,7 +36,7 @@ impl Answer {
 
     pub fn bytes(&self) -> Vec<u8> {
         let refusal = self.refusal.unwrap_or(Refusal::plain(0));
-        let head = [refusal.number, refusal.record, 0];
+        let head = [refusal.number, refusal.record, refusal.edge];
         let numbers = head.iter().chain(&self.numbers).flat_map(|number| number.to_le_bytes());
         numbers.chain(self.bytes.iter().copied()).collect()
     }

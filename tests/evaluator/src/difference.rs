@@ -28,7 +28,7 @@ pub fn describe(request: &Request) -> String {
 /// One line for each number that differs, and one for the bytes; none where the reply is the answer.
 pub fn differences(operation: u8, answer: &Answer, reply: &[u8]) -> Vec<String> {
     let expected = answer.bytes();
-    let names = ["refusal", "record", "third number"].iter().chain(number_names(operation));
+    let names = ["refusal", "record", "edge"].iter().chain(number_names(operation));
     let head = 4 * names.clone().count();
     let number = |bytes: &[u8], at: usize| u32::from_le_bytes([bytes[at], bytes[at + 1], bytes[at + 2], bytes[at + 3]]);
     let mut lines = Vec::new();

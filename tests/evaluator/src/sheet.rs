@@ -1,6 +1,7 @@
 //! The sheet of small tables, P1 to P10, and the cases beside it, with the specification's literal numbers.
 
 use crate::answer::{answer, Answer};
+use crate::reading::Reading;
 use crate::request::{Request, Table};
 use crate::rm3::{translate, Rm3};
 use crate::script::{run, Progress};
@@ -18,8 +19,9 @@ fn table(records: &[Record]) -> Table {
     Table { used: buffer.len() as u32, buffer }
 }
 
-fn check(records: &[Record]) -> Result<Network, (u32, u32)> {
-    table(records).network().map_err(|refusal| (refusal.number, refusal.record))
+/// The table's network, or the three numbers of its refusal.
+fn check(records: &[Record]) -> Result<Network, [u32; 3]> {
+    table(records).network().map_err(|Refusal { number, record, edge }| [number, record, edge])
 }
 
 fn step(network: &Network, rule: u16, gate: u16) -> Result<Network, u32> {
@@ -97,7 +99,7 @@ fn p8_and_its_rm3_listing() {
 
 #[test]
 fn p9_and_p10() {
-    assert_eq!(check(&[]), Err((3, 0)));
+    assert_eq!(check(&[]), Err([3, 0, 0]));
     assert_eq!(read(&[0; 12], 12, None), Err(Refusal::plain(1)));
 }
 
@@ -109,10 +111,10 @@ fn limits() {
         records.push([3, 0, 0, 0]);
         check(&records).err()
     };
-    assert_eq!((sized(32, 0), sized(33, 0)), (None, Some((3, 0))));
-    assert_eq!((sized(0, 1024), sized(0, 1025)), (None, Some((3, 0))));
+    assert_eq!((sized(32, 0), sized(33, 0)), (None, Some([3, 0, 0])));
+    assert_eq!((sized(0, 1024), sized(0, 1025)), (None, Some([3, 0, 0])));
     let reading = |edge| check(&[[1, 0, 0, 0], [1, 0, 0, 0], [2, 0, 0, edge], [3, 0, 0, 0]]).err();
-    assert_eq!((reading(6), reading(5)), (Some((5, 2)), None));
+    assert_eq!((reading(6), reading(5)), (Some([5, 2, 3]), None));
 }
 
 #[test]
@@ -131,10 +133,52 @@ fn rule_3_at_the_limit() {
 fn order_of_refusals() {
     let mut forty = vec![[1, 0, 0, 0]; 40];
     forty.push([9, 0, 0, 0]);
-    assert_eq!(check(&forty), Err((2, 40)));
-    assert_eq!(check(&[[2, 2, 0, 0]]), Err((3, 0)));
-    assert_eq!(check(&[[3, 60_000, 1, 0]]), Err((4, 0)));
-    assert_eq!(check(&[[2, 2, 0, 0], [3, 0, 1, 0]]), Err((5, 0)));
+    assert_eq!(check(&forty), Err([2, 40, 0]));
+    assert_eq!(check(&[[2, 2, 0, 0]]), Err([3, 0, 0]));
+    assert_eq!(check(&[[3, 60_000, 1, 0]]), Err([4, 0, 0]));
+    assert_eq!(check(&[[2, 2, 0, 0], [3, 0, 1, 0]]), Err([5, 0, 1]));
+}
+
+/// Refusal 5 carries the first bad edge of the first bad record: gate 3 may read edges up to 5, an output up to 7.
+#[test]
+fn bad_edges() {
+    let reading = |e1, e2, e3| check(&[[1, 0, 0, 0], [1, 0, 0, 0], [2, e1, e2, e3], [3, 6, 0, 0]]).err();
+    let told = [([6, 5, 5], 1), ([5, 6, 5], 2), ([5, 5, 6], 3), ([7, 4, 99], 1), ([4, 7, 6], 2), ([5, 99, 0], 2)];
+    for ([e1, e2, e3], edge) in told {
+        assert_eq!(reading(e1, e2, e3), Some([5, 2, edge]), "({e1}, {e2}, {e3})");
+    }
+    assert_eq!((reading(6, 6, 6), reading(5, 5, 5)), (Some([5, 2, 1]), None));
+    let outputs = |first, second| check(&[[1, 0, 0, 0], [2, 2, 3, 0], first, second]).err();
+    assert_eq!(outputs([3, 5, 0, 0], [3, 6, 0, 0]), Some([5, 3, 1]));
+    assert_eq!(outputs([3, 7, 0, 1], [3, 6, 0, 0]), Some([4, 2, 0]));
+    assert_eq!(outputs([3, 7, 0, 0], [3, 6, 0, 1]), Some([5, 2, 1]));
+    let gates = |first, second| check(&[[1, 0, 0, 0], first, second, [3, 99, 0, 0]]).err();
+    assert_eq!(gates([2, 3, 3, 4], [2, 6, 0, 0]), Some([5, 1, 3]));
+    assert_eq!(gates([2, 3, 3, 3], [2, 4, 6, 0]), Some([5, 2, 2]));
+}
+
+/// Every call passes the edge up, and writes nothing.
+#[test]
+fn bad_edge_of_every_call() {
+    let records = [[1, 0, 0, 0], [2, 2, 4, 0], [3, 4, 0, 0]];
+    let bad = || table(&records);
+    let reading = || Reading { counts: [1, 1, 1], records: record_bytes(&records) };
+    let (step, bytes) = (Step::of([0, 0, 0, 0]), record_bytes(&records));
+    let requests = [
+        (Request::Check(bad()), vec![0, 0, 0], vec![]),
+        (Request::Evaluate(bad(), 2), vec![0], vec![]),
+        (Request::Report(bad()), vec![0, 0], vec![]),
+        (Request::Step(bad(), step), vec![0], bytes.clone()),
+        (Request::Script(bad(), vec![0]), vec![0, 24], bytes),
+        (Request::Rm3(bad(), vec![9]), vec![0], vec![9]),
+        (Request::ReadingEvaluate(reading(), 2), vec![0], vec![]),
+        (Request::ReadingReport(reading()), vec![0, 0], vec![]),
+    ];
+    for (request, numbers, bytes) in requests {
+        let refusal = Some(Refusal { number: 5, record: 1, edge: 2 });
+        assert_eq!(answer(&request), Answer { refusal, numbers, bytes }, "{request:?}");
+        assert_eq!(answer(&request).bytes()[..12], [5, 0, 0, 0, 1, 0, 0, 0, 2, 0, 0, 0]);
+    }
 }
 
 #[test]

@@ -44,17 +44,26 @@ pub struct Network {
 #[derive(Clone, Copy, PartialEq, Eq, Debug)]
 pub struct Refusal {
     pub number: u32,
+    /// The record that 2, 4 and 5 carry, counted from 0; all others carry 0.
     pub record: u32,
+    /// The edge that 5 carries, 1 to 3; all others carry 0.
+    pub edge: u32,
 }
 
 impl Refusal {
     /// A refusal that carries no record.
     pub fn plain(number: u32) -> Refusal {
-        Refusal { number, record: 0 }
+        Refusal { number, record: 0, edge: 0 }
     }
 
+    /// A refusal that carries a record and no edge.
     fn at(number: u32, record: usize) -> Refusal {
-        Refusal { number, record: record as u32 }
+        Refusal { number, record: record as u32, edge: 0 }
+    }
+
+    /// An edge that names a node it may not, by its place among the record's edges, counted from 0.
+    fn bad_edge(record: usize, place: usize) -> Refusal {
+        Refusal { number: 5, record: record as u32, edge: place as u32 + 1 }
     }
 }
 
@@ -103,8 +112,8 @@ pub fn read(buffer: &[u8], used: u32, claimed: Option<[u32; 3]>) -> Result<Netwo
         if zeros.iter().any(|&field| field != 0) {
             return Err(Refusal::at(4, at));
         }
-        if edges.iter().any(|&edge| Edge::of(edge).node >= bound) {
-            return Err(Refusal::at(5, at));
+        if let Some(place) = edges.iter().position(|&edge| Edge::of(edge).node >= bound) {
+            return Err(Refusal::bad_edge(at, place));
         }
         match kind {
             1 => {}
