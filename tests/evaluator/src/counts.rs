@@ -1,10 +1,10 @@
-//! What a run met: requests, accepted ones, rules, refusals and RM3 patterns.
+//! What a run met: requests, accepted ones, rules, refusals with their edges, and RM3 patterns.
 
 use crate::answer::Answer;
 use crate::request::{Request, CALLS};
 use crate::rm3::class;
 use crate::step::{Step, LAST_RULE};
-use crate::table::records;
+use crate::table::{records, Refusal};
 
 const RULES: usize = LAST_RULE as usize;
 
@@ -13,6 +13,8 @@ pub struct Counts {
     asked: [usize; 9],
     accepted: [usize; 9],
     refusals: [[usize; 13]; 9],
+    /// Refusals 5, by operation and by the edge that they carry.
+    edges: [[usize; 4]; 9],
     /// Accepted steps, by operation and rule.
     rules: [[usize; RULES + 1]; 9],
     /// Steps that were refused, single ones and those that stopped a script, by rule and refusal.
@@ -63,6 +65,9 @@ impl Counts {
             Some(refusal) => self.refusals[operation][refusal.number as usize] += 1,
             None => self.accepted[operation] += 1,
         }
+        if let Some(Refusal { number: 5, edge, .. }) = answer.refusal {
+            self.edges[operation][edge as usize] += 1;
+        }
         match request {
             Request::Step(_, step) => match answer.refusal {
                 Some(refusal) => self.refused_steps[rule_of(*step)][refusal.number as usize] += 1,
@@ -98,6 +103,8 @@ impl Counts {
             }
             let never = possible(operation).iter().filter(|&&number| self.refusals[place][number] == 0);
             lines.extend(never.map(|number| format!("never met: refusal {number} of operation {operation}")));
+            let edges = (1..=3).filter(|&edge| self.edges[place][edge] == 0);
+            lines.extend(edges.map(|edge| format!("never met: refusal 5 with edge {edge} of operation {operation}")));
             let rules = (1..=RULES).filter(|&rule| (operation == 4 || operation == 5) && self.rules[place][rule] == 0);
             lines.extend(rules.map(|rule| format!("never met: rule {rule} accepted by operation {operation}")));
             for rule in (1..=RULES).filter(|_| operation == 4) {
@@ -131,6 +138,8 @@ impl Counts {
             let met: usize = self.refusals.iter().map(|refusals| refusals[number]).sum();
             lines.push(format!("refusal {number}: {met} times"));
         }
+        let edges = [1, 2, 3].map(|edge| self.edges.iter().map(|edges| edges[edge]).sum::<usize>());
+        lines.push(format!("bad edge: first {} times, second {}, third {}", edges[0], edges[1], edges[2]));
         if asked.contains(&5) {
             lines.push(format!("longest script: {} steps taken", self.longest));
         }

@@ -5,6 +5,8 @@ mod answer;
 mod cases;
 mod counts;
 mod difference;
+#[cfg(test)]
+mod edge_tests;
 mod pipe;
 mod random;
 mod reading;
@@ -41,8 +43,8 @@ How the count is spread: of 20 requests operations 1 to 8 get 3, 2, 1, 7, 2, 3, 
 shares). Each operation deals its kinds of cases from a shuffled deck, so that every kind comes once before one
 comes again beyond its weight, and a kind goes through its variants in turn. Every 100th request of an operation is a
 rare one: a part of 65,536 bytes, or for operation 5 every other time a script of 5,000 to 8,192 steps.
-With 2000 requests or more a run fails also when a refusal or a rule of its operations, or a refusal of a rule by
-operation 4 or 5, was never met.
+With 2000 requests or more a run fails also when a refusal or a rule of its operations, one of the edges that refusal 5
+carries, or a refusal of a rule by operation 4 or 5, was never met.
 The exit status is 0 where all replies are as expected, 1 where not, and 2 for bad usage.
 ";
 

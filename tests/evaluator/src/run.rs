@@ -19,7 +19,7 @@ pub struct Difference {
     pub request: Request,
 }
 
-/// From this many requests on, a run must meet every refusal and rule that its operations can meet.
+/// From this many requests on, a run must meet every refusal, bad edge and rule that its operations can meet.
 pub const ENOUGH: usize = 2000;
 
 /// How a run asks: the request and the length of its reply, which comes back whole or as what went wrong.

@@ -28,7 +28,7 @@ fn steps_keep_the_outputs() {
 }
 
 /// Runs against a fake program: the evaluator's own answers, changed by one slip.
-fn against(slip: fn(&Request, Answer) -> Answer) -> Result<Counts, String> {
+pub fn against(slip: fn(&Request, Answer) -> Answer) -> Result<Counts, String> {
     let settings = Settings { seed: 3, count: ENOUGH, operations: (1..=8).collect() };
     let mut counts = Counts::default();
     let ended = run(&settings, &mut counts, &mut |request, _| Ok(slip(request, answer(request)).bytes()));

@@ -30,7 +30,7 @@ pub fn disorder(random: &mut Random, turn: usize, records: &mut [Record]) {
 }
 
 /// Places of the records of one kind.
-fn of_kind(records: &[Record], kind: u16) -> Vec<usize> {
+pub fn of_kind(records: &[Record], kind: u16) -> Vec<usize> {
     (0..records.len()).filter(|&place| records[place][0] == kind).collect()
 }
 

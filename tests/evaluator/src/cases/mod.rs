@@ -3,6 +3,7 @@
 mod assignments;
 mod damage;
 mod deck;
+mod edges;
 pub mod networks;
 mod plant;
 mod readings;

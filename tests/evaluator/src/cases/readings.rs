@@ -1,7 +1,9 @@
-//! Readings: right counts, each count wrong in each way, and wrong counts on records that are wrong themselves.
+//! Readings: right counts, on sound records and on bad edges; each count wrong in each way; and wrong counts on records
+//! that are wrong themselves.
 
 use super::deck::{kind, Kind};
-use super::{assignments, lent, networks};
+use super::tables::bad_edges;
+use super::{assignments, edges, lent, networks};
 use crate::random::Random;
 use crate::reading::Reading;
 use crate::request::{Request, Table};
@@ -78,6 +80,18 @@ fn wrong_counts_and_records(random: &mut Random, turn: usize) -> Reading {
     damage(random, turn, reading)
 }
 
+fn gate_edges(random: &mut Random, turn: usize) -> Reading {
+    right(bad_edges(random, turn, edges::gate))
+}
+
+fn output_edge(random: &mut Random, turn: usize) -> Reading {
+    right(bad_edges(random, turn, edges::output))
+}
+
+fn several_edges(random: &mut Random, turn: usize) -> Reading {
+    right(bad_edges(random, turn, edges::several))
+}
+
 fn cut_record(random: &mut Random, turn: usize) -> Reading {
     let mut reading = small(random);
     match turn % 3 {
@@ -105,6 +119,9 @@ fn kinds(request: fn(&mut Random, Reading) -> Request) -> Vec<Kind> {
         kind("reading with wrong counts", 12, ask(wrong_counts)),
         kind("reading with right counts and wrong records", 4, ask(wrong_records)),
         kind("reading with wrong counts and records", 8, ask(wrong_counts_and_records)),
+        kind("reading of bad edges of a gate", 8, ask(gate_edges)),
+        kind("reading of a bad edge of an output", 5, ask(output_edge)),
+        kind("reading of bad edges of several records", 3, ask(several_edges)),
         kind("reading of a cut record", 3, ask(cut_record)),
         kind("reading of no records", 1, ask(no_records)),
     ]

@@ -1,7 +1,7 @@
 //! Tables for every operation: sound ones, ones damaged in each listed way, and used lengths of all sorts.
 
 use super::damage::{bad_kind, disorder, edge_at_border, field_not_zero, Damage};
-use super::{lent, networks};
+use super::{edges, lent, networks};
 use crate::random::Random;
 use crate::request::Table;
 use crate::table::{record_bytes, Record};
@@ -20,6 +20,9 @@ pub const KINDS: &[(&str, usize, Make)] = &[
     ("kind out of order", 2, |random, turn| damaged(random, turn, disorder)),
     ("field not zero", 3, |random, turn| damaged(random, turn, field_not_zero)),
     ("edge at the border", 5, |random, turn| damaged(random, turn, edge_at_border)),
+    ("bad edges of a gate", 6, |random, turn| bad_edges(random, turn, edges::gate)),
+    ("bad edge of an output", 4, |random, turn| bad_edges(random, turn, edges::output)),
+    ("bad edges of several records", 4, |random, turn| bad_edges(random, turn, edges::several)),
     ("several faults", 7, several_faults),
     ("bad kind after a count past its limit", 1, bad_kind_past_limit),
     ("used length", 7, used_length),
@@ -93,6 +96,12 @@ fn damaged(random: &mut Random, turn: usize, damage: Damage) -> Table {
     let (inputs, gates, outputs) = (random.between(1, 5), random.between(1, 6), random.between(1, 4));
     let mut records = networks::sized(random, inputs, gates, outputs).records();
     damage(random, turn, &mut records);
+    lend(random, &records)
+}
+
+/// A table of records that one of the makers of bad edges makes.
+pub fn bad_edges(random: &mut Random, turn: usize, make: fn(&mut Random, usize) -> Vec<Record>) -> Table {
+    let records = make(random, turn);
     lend(random, &records)
 }
 
