@@ -49,17 +49,17 @@ static void put_part(const struct part *part)
 }
 
 /* The three numbers that begin each reply. */
-static void put_refusal(uint32_t refusal, size_t record)
+static void put_refusal(uint32_t refusal, size_t record, uint32_t edge)
 {
     put_number(refusal);
     put_number(record);
-    put_number(0);
+    put_number(edge);
 }
 
 static void check(size_t used)
 {
     struct pulpgarnet_checked r = pulpgarnet_check(table.bytes, table.length, used);
-    put_refusal(r.refusal, r.record);
+    put_refusal(r.refusal, r.record, r.edge);
     put_number(r.inputs);
     put_number(r.gates);
     put_number(r.outputs);
@@ -67,7 +67,7 @@ static void check(size_t used)
 
 static void put_valued(struct pulpgarnet_valued r)
 {
-    put_refusal(r.refusal, r.record);
+    put_refusal(r.refusal, r.record, r.edge);
     put_number(r.outputs);
 }
 
@@ -79,7 +79,7 @@ static void evaluate(size_t used)
 
 static void put_reported(struct pulpgarnet_reported r)
 {
-    put_refusal(r.refusal, r.record);
+    put_refusal(r.refusal, r.record, r.edge);
     put_number(r.size);
     put_number(r.depth);
 }
@@ -93,7 +93,7 @@ static void step(size_t used)
 {
     uint16_t rule = get_number(2), gate = get_number(2), a = get_number(2), b = get_number(2);
     struct pulpgarnet_stepped r = pulpgarnet_step(table.bytes, table.length, used, rule, gate, a, b);
-    put_refusal(r.refusal, r.record);
+    put_refusal(r.refusal, r.record, r.edge);
     put_number(r.used);
     put_part(&table);
 }
@@ -102,7 +102,7 @@ static void run(size_t used)
 {
     get_part(&script);
     struct pulpgarnet_ran r = pulpgarnet_script(table.bytes, table.length, used, script.bytes, script.length);
-    put_refusal(r.refusal, r.record);
+    put_refusal(r.refusal, r.record, r.edge);
     put_number(r.taken);
     put_number(r.used);
     put_part(&table);
@@ -112,7 +112,7 @@ static void translate(size_t used)
 {
     get_part(&out);
     struct pulpgarnet_written r = pulpgarnet_translate(table.bytes, table.length, used, out.bytes, out.length);
-    put_refusal(r.refusal, r.record);
+    put_refusal(r.refusal, r.record, r.edge);
     put_number(r.length);
     put_part(&out);
 }
