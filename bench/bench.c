@@ -79,7 +79,7 @@ struct input {
     uint8_t steps[RECORD * STEPS];
 };
 
-struct reply { uint64_t numbers[5]; };
+struct reply { uint64_t numbers[6]; };
 
 static uint8_t out[MOST_RM3];
 
@@ -92,32 +92,32 @@ __attribute__((noinline)) static void ask(const struct side *side, const struct 
         break;
     case CHECK: {
         struct pulpgarnet_checked r = side->check(table, in->length, in->used);
-        n[0] = r.refusal, n[1] = r.record, n[2] = r.inputs, n[3] = r.gates, n[4] = r.outputs;
+        n[0] = r.refusal, n[1] = r.record, n[2] = r.edge, n[3] = r.inputs, n[4] = r.gates, n[5] = r.outputs;
         break;
     }
     case EVALUATE: {
         struct pulpgarnet_valued r = side->evaluate(table, in->length, in->used, in->assignment);
-        n[0] = r.refusal, n[1] = r.record, n[2] = r.outputs;
+        n[0] = r.refusal, n[1] = r.record, n[2] = r.edge, n[3] = r.outputs;
         break;
     }
     case REPORT: {
         struct pulpgarnet_reported r = side->report(table, in->length, in->used);
-        n[0] = r.refusal, n[1] = r.record, n[2] = r.size, n[3] = r.depth;
+        n[0] = r.refusal, n[1] = r.record, n[2] = r.edge, n[3] = r.size, n[4] = r.depth;
         break;
     }
     case STEP: {
         struct pulpgarnet_stepped r = side->step(table, in->length, in->used, in->rule, in->gate, in->a, in->b);
-        n[0] = r.refusal, n[1] = r.record, n[2] = r.used;
+        n[0] = r.refusal, n[1] = r.record, n[2] = r.edge, n[3] = r.used;
         break;
     }
     case SCRIPT: {
         struct pulpgarnet_ran r = side->script(table, in->length, in->used, in->steps, sizeof in->steps);
-        n[0] = r.refusal, n[1] = r.record, n[2] = r.taken, n[3] = r.used;
+        n[0] = r.refusal, n[1] = r.record, n[2] = r.edge, n[3] = r.taken, n[4] = r.used;
         break;
     }
     case TRANSLATE: {
         struct pulpgarnet_written r = side->translate(table, in->length, in->used, out, sizeof out);
-        n[0] = r.refusal, n[1] = r.record, n[2] = r.length;
+        n[0] = r.refusal, n[1] = r.record, n[2] = r.edge, n[3] = r.length;
         break;
     }
     }
@@ -262,8 +262,8 @@ static void make_input(struct input *in, const struct row *row, unsigned gates)
     snprintf(in->label, sizeof in->label, "%-22s %6u", row->name, in->gates);
 }
 
-/* Both sides accept and answer the same, reply and bytes. */
-static void compare(const struct input *in)
+/* Both sides answer the same, reply and bytes, with this refusal at this record and edge. */
+static void compare_refusal(const struct input *in, uint64_t refusal, uint64_t record, uint64_t edge)
 {
     static uint8_t tables[2][MOST_BUFFER], outs[2][MOST_RM3];
     struct reply replies[2];
@@ -274,13 +274,29 @@ static void compare(const struct input *in)
         ask(&SIDES[s], in, tables[s], &replies[s]);
         memcpy(outs[s], out, sizeof out);
     }
-    const char *wrong = replies[0].numbers[0] != 0 || replies[1].numbers[0] != 0 ? "is refused"
-        : memcmp(&replies[0], &replies[1], sizeof replies[0]) != 0 ? "has two replies"
+    const uint64_t *n = replies[0].numbers;
+    const char *wrong = memcmp(&replies[0], &replies[1], sizeof replies[0]) != 0 ? "has two replies"
+        : n[0] != refusal || n[1] != record || n[2] != edge ? "has another refusal"
         : memcmp(tables[0], tables[1], MOST_BUFFER) != 0 || memcmp(outs[0], outs[1], sizeof out) != 0 ? "leaves two results"
         : 0;
     if (wrong) {
         printf("bench: %s gates: %s\n", in->label, wrong);
         exit(1);
+    }
+}
+
+/* Both sides accept, and answer the same; and so where the last gate's third edge names the gate itself, then its second too, then
+   all three. */
+static void compare(const struct input *in)
+{
+    static struct input bad;
+    unsigned node = in->inputs + in->gates, own = 2 * node;
+    unsigned e1 = edge_of(in->table, node, 1), e2 = edge_of(in->table, node, 2);
+    compare_refusal(in, 0, 0, 0);
+    memcpy(&bad, in, sizeof bad);
+    for (unsigned edge = 3; edge > 0; edge--) {
+        put_record(bad.table, node - 1, 2, edge > 1 ? e1 : own, edge > 2 ? e2 : own, own);
+        compare_refusal(&bad, 5, node - 1, edge);
     }
 }
 
