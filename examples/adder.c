@@ -45,7 +45,7 @@ int main(void)
     size_t used = 8 * 8;
     struct pulpgarnet_checked checked = pulpgarnet_check(table, sizeof table, used);
     if (checked.refusal) {
-        printf("refused %u at %zu\n", checked.refusal, checked.record);
+        printf("refused %u at %zu %u\n", checked.refusal, checked.record, checked.edge);
         return 1;
     }
     printf("inputs %zu gates %zu outputs %zu\n", checked.inputs, checked.gates, checked.outputs);
@@ -53,7 +53,7 @@ int main(void)
 
     /* Gate 4 has no two edges that are equal or opposite, so rule 2 is refused, and nothing changes. */
     struct pulpgarnet_stepped stepped = pulpgarnet_step(table, sizeof table, used, 2, 4, 0, 0);
-    printf("rule 2 on gate 4: refused %u at %zu\n", stepped.refusal, stepped.record);
+    printf("rule 2 on gate 4: refused %u at %zu %u\n", stepped.refusal, stepped.record, stepped.edge);
 
     struct pulpgarnet_ran ran = pulpgarnet_script(table, sizeof table, used, steps, sizeof steps);
     printf("taken %zu refused %u used %zu\n", ran.taken, ran.refusal, ran.used);

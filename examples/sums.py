@@ -20,9 +20,9 @@ def ask(pipe, table, assignment):
         pass
     if len(reply) < 16:
         sys.exit("sums.py: majpipe ended before it had answered")
-    refusal, record, _, outputs = struct.unpack("<IIII", reply)
+    refusal, record, edge, outputs = struct.unpack("<IIII", reply)
     if refusal:
-        sys.exit(f"refused {refusal} at {record}")
+        sys.exit(f"refused {refusal} at {record} {edge}")
     return outputs
 
 
