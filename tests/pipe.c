@@ -84,9 +84,14 @@ static void put_reported(struct pulpgarnet_reported r)
     put_number(r.depth);
 }
 
+/* No operation asks for the RM3 table's depth, so it is asked for here: it is refused just as the report is. */
 static void report(size_t used)
 {
-    put_reported(pulpgarnet_report(table.bytes, table.length, used));
+    struct pulpgarnet_reported r = pulpgarnet_report(table.bytes, table.length, used);
+    struct pulpgarnet_deep d = pulpgarnet_rm3_depth(table.bytes, table.length, used);
+    if (d.refusal != r.refusal || d.record != r.record || d.edge != r.edge || (d.refusal != 0 && d.depth != 0))
+        end("the depth of the RM3 table is refused otherwise than the report");
+    put_reported(r);
 }
 
 static void step(size_t used)
