@@ -2,7 +2,7 @@
 """voter.py FOLDER: writes a network of five levels and a script that brings it to two to a folder, as voter.maj and voter.steps.
 
 Gate 8 waits for gate 7. But it counts only where gate 7 and x1 differ, and there gate 7 is !x1. A voter step makes a copy of all
-gates for that case, and two more for the cases that gate 9 follows x1, or gate 7; then majority steps make each of them short."""
+gates for that case, and two more for the cases that gate 9 follows x1, or gate 7; then steps of rules 2 and 10 make each of them short."""
 from pack import folder_argument, packed, store
 from sheet import SWEEP, table
 
@@ -19,7 +19,7 @@ NETWORK = table(
 )
 SCRIPT = [
     (9, 11, 1, 7),  # voter, of x1 and gate 7: 15 gates are put before gate 11, which is gate 26 then
-    (2, 13, 0, 0),  # the first copy, !x1 for gate 7: gate 13 reads x1 and !x1, so it is gate 12,
+    (10, 13, 0, 0),  # the first copy, !x1 for gate 7: gate 13 reads x1 and !x1, so it is gate 12,
     (2, 14, 0, 0),  # and so is gate 14, which reads gate 12 twice then,
     (2, 15, 0, 0),  # and so is gate 15
     (1, 20, 2, 0),  # the second copy, x1 for gate 9: gate 20 reads x1 twice; its first two edges are to be the equal ones

@@ -12,7 +12,7 @@ use Rattle.majority.specs.Check.{count}
 use Rattle.rules.specs.Sweep.{sweep}
 use Rattle.rules.specs.Step.{ruleOf, saidRule, isSweep, fieldsFit, hasForm, inserted, rewritten, stepBy, step}
 use Rattle.rules.specs.declared.Rule.{Rule}
-use Rattle.rules.specs.declared.Rule.the-variants.{Exchange, Majority, Associativity, Outward, Inward, Inversion, Share, Sweep, Voter}
+use Rattle.rules.specs.declared.Rule.the-variants.{Exchange, Majority, Associativity, Outward, Inward, Inversion, Share, Sweep, Voter, Opposite}
 use Rattle.rules.specs.declared.Step.{Step}
 use Rattle.rules.specs.declared.Named.{Named}
 use Rattle.rules.specs.declared.Named.the-variants.{Known, Unknown}
@@ -110,6 +110,7 @@ swept-made n rs Inversion g a b e = absurd (true≢false (sym e))
 swept-made n rs Share g a b e = absurd (true≢false (sym e))
 swept-made n rs Sweep g a b e = refl
 swept-made n rs Voter g a b e = absurd (true≢false (sym e))
+swept-made n rs Opposite g a b e = absurd (true≢false (sym e))
 
 -- sweep leaves no more gates than there were
 pub swept-fewer : {xs ys : List ℕ} {c : Counts} {r : ℕ} → Sound xs c → Swept xs c r ys → r ≤ c .gates
@@ -150,3 +151,4 @@ few-more n Inversion g = omega arith
 few-more n Share g = omega arith
 few-more n Sweep g = omega arith
 few-more n Voter g = omega arith
+few-more n Opposite g = omega arith

@@ -17,7 +17,6 @@ use rules::exchanged;
 use rules::inverted_gate;
 use rules::inward_gate;
 use rules::inward_new;
-use rules::majority_edge;
 use rules::outward_first;
 use rules::outward_gate;
 use rules::outward_second;
@@ -105,7 +104,7 @@ pub(crate) fn edit(s: &mut [u8], counts: Counts, rule: Rule, gate: u16, a: u16, 
 {
     match rule {
         Rule::Exchange => exchange(s, counts, gate, a),
-        Rule::Majority => redirect_gate(s, counts, gate, majority_edge(node_record(s, gate))),
+        Rule::Majority => redirect_gate(s, counts, gate, node_record(s, gate).e1),
         Rule::Associativity => associativity(s, counts, gate),
         Rule::Outward => outward(s, counts, gate),
         Rule::Inward => inward(s, counts, gate),
@@ -113,5 +112,6 @@ pub(crate) fn edit(s: &mut [u8], counts: Counts, rule: Rule, gate: u16, a: u16, 
         Rule::Share => redirect_gate(s, counts, gate, plain(a)),
         Rule::Sweep => {}
         Rule::Voter => vote(s, counts, gate, a, b),
+        Rule::Opposite => redirect_gate(s, counts, gate, node_record(s, gate).e3),
     }
 }

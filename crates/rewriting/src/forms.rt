@@ -7,6 +7,7 @@ use rules::Rule;
 use rules::associativity_form;
 use rules::inward_form;
 use rules::majority_form;
+use rules::opposite_form;
 use rules::outward_form;
 use rules::share_form;
 ghost use mathlib.Core.Path.{_≡_};
@@ -37,5 +38,6 @@ pub(crate) fn has_form(s: &[u8], counts: Counts, rule: Rule, gate: u16, a: u16, 
         Rule::Share => share_form(r, node_record(s, a)),
         Rule::Sweep => true,
         Rule::Voter => voter_form(s, counts, gate, a, b),
+        Rule::Opposite => opposite_form(r),
     }
 }

@@ -13,7 +13,7 @@ pub mod Insert  -- the records after gates were inserted
 pub mod InsertNodes  -- inserting keeps each old node's worth
 -- each rule keeps
 pub mod Exchange  -- rule 1
-pub mod MajorityShare  -- rules 2 and 7
+pub mod MajorityShare  -- rules 2, 7 and 10
 pub mod InsertAndBecome  -- what rules 3 to 5 and 9 have in common
 pub mod Associativity  -- rule 3
 pub mod Outward  -- rule 4

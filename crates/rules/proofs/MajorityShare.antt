@@ -1,18 +1,17 @@
--- Rules 2 and 7, majority and share: a gate is redirected to an edge of the same value that stands no higher.
+-- Rules 2, 7 and 10, majority, share and opposite: a gate is redirected to an edge of the same value that stands no higher.
 use Prim.Native.Nat.{ℕ, _<_}
-use mathlib.Core.Path.{_≡_, refl, sym, ap, _∙_}
-use mathlib.Core.Bool.{Bool, true, false, _&&_, _||_}
+use mathlib.Core.Path.{_≡_, sym, ap, _∙_}
+use mathlib.Core.Bool.{Bool, true, _&&_}
 use mathlib.Core.List.{List}
 use native.Mathlib.Omega.{arith}
 use borrow.Author.Tests.{eqb-true}
 use lib.Dec.{eqb}
-use Rattle.majority.specs.If.{if_then_else_}
 use Rattle.majority.specs.Edge.{flip}
 use Rattle.majority.specs.Node.{Meaning, edgeWorth, worth}
 use Rattle.majority.specs.Value.{majorityOf, values, value}
 use Rattle.majority.specs.Level.{levels}
 use Rattle.majority.specs.Edit.{nodeRecord, redirectAll}
-use Rattle.rules.specs.Rules.{plain, majorityForm, majorityRule, shareForm, share}
+use Rattle.rules.specs.Rules.{plain, majorityForm, majorityRule, shareForm, share, oppositeForm, opposite}
 use Rattle.rules.specs.Kept.{inPlace, NodesKept}
 use Rattle.majority.specs.declared.Record.{Record}
 use Rattle.majority.proofs.Logic.{both}
@@ -30,24 +29,26 @@ module _ {n m o g : ℕ} {rs : List Record} (is : GateOf n m o g rs) where
   abbrev v : ℕ → ℕ → Bool
   v a = edgeWorth (values a) (value a rs)
 
-  either : (t : Bool) → eqb (r .e2) (r .e1) ≡ t → (t || eqb (r .e2) (flip (r .e1))) ≡ true → NodesKept 0 n m m o inPlace rs (redirectAll g (if t then r .e1 else r .e3) rs)
-  either true test form =
-      let same : r .e2 ≡ r .e1 = eqb-true _ _ test in
+  -- M(x, x, z) = x
+  pub majority-kept : majorityForm r ≡ true → NodesKept 0 n m m o inPlace rs (majorityRule g rs)
+  unfolding majorityForm majorityRule
+  majority-kept form =
+      let same : r .e2 ≡ r .e1 = eqb-true _ _ form in
       redirect-kept g (r .e1) (is .formed) (omega (arith, is .from)) (omega (arith, gate-reads is .first))
       (λ a. gate-node is (values a) ∙ ap (λ (e : ℕ). majorityOf (v a (r .e1)) (v a e) (v a (r .e3))) same ∙ majority-equal _ _)
       (omega (arith, gate-level is .0))
-  either false test form =
-      let opposite : r .e2 ≡ flip (r .e1) = eqb-true _ _ form in
+
+  -- M(x, not x, z) = z
+  pub opposite-kept : oppositeForm r ≡ true → NodesKept 0 n m m o inPlace rs (opposite g rs)
+  unfolding oppositeForm opposite
+  opposite-kept form =
+      let against : r .e2 ≡ flip (r .e1) = eqb-true _ _ form in
       redirect-kept g (r .e3) (is .formed) (omega (arith, is .from)) (omega (arith, gate-reads is .third))
       (λ a.
       gate-node is (values a)
-      ∙ ap (λ (b : Bool). majorityOf (v a (r .e1)) b (v a (r .e3))) (ap (v a) opposite ∙ flip-worth (values a) (dual-values a) (value a rs) (r .e1))
+      ∙ ap (λ (b : Bool). majorityOf (v a (r .e1)) b (v a (r .e3))) (ap (v a) against ∙ flip-worth (values a) (dual-values a) (value a rs) (r .e1))
       ∙ majority-opposite _ _)
       (omega (arith, gate-level is .2))
-
-  pub majority-kept : majorityForm r ≡ true → NodesKept 0 n m m o inPlace rs (majorityRule g rs)
-  unfolding majorityForm majorityRule
-  majority-kept form = either (eqb (r .e2) (r .e1)) refl form
 
   module _ (a : ℕ) (from : n < a) (below : a < g) (form : shareForm r (nodeRecord rs a) ≡ true) where
     abbrev s : Record

@@ -17,11 +17,11 @@ use Rattle.rules.specs.Kept.{movesOf, movesBy, NodesKept, Kept}
 use Rattle.rules.specs.Step.{isSweep, fieldsFit, hasForm, inserted, rewritten, step, deepens, deepensBy, voters, votersBy}
 use Rattle.rules.specs.declared.Step.{Step}
 use Rattle.rules.specs.declared.Rule.{Rule}
-use Rattle.rules.specs.declared.Rule.the-variants.{Exchange, Majority, Associativity, Outward, Inward, Inversion, Share, Sweep, Voter}
+use Rattle.rules.specs.declared.Rule.the-variants.{Exchange, Majority, Associativity, Outward, Inward, Inversion, Share, Sweep, Voter, Opposite}
 use Rattle.rules.proofs.KeptByNodes.{kept-by-nodes}
 use Rattle.rules.proofs.GateNodes.{GateOf}
 use Rattle.rules.proofs.Exchange.{exchange-kept}
-use Rattle.rules.proofs.MajorityShare.{majority-kept, share-kept}
+use Rattle.rules.proofs.MajorityShare.{majority-kept, opposite-kept, share-kept}
 use Rattle.rules.proofs.Associativity.{associativity-kept}
 use Rattle.rules.proofs.Outward.{outward-kept}
 use Rattle.rules.proofs.Inward.{inward-kept}
@@ -57,6 +57,7 @@ module _ {n m o : ℕ} {rs : List Record} (formed : WellFormed n m o rs) (g a b 
       rw (add-zero m) (share-kept (gate-of Share refl fields) a (w .0) (w .1) form)
   by-rule Sweep fields form = sweep-kept formed
   by-rule Voter fields form = let w = voter-field n m g a b fields in voter-kept (gate-of Voter refl fields) a b (w .1) form
+  by-rule Opposite fields form = rw (add-zero m) (opposite-kept (gate-of Opposite refl fields) form)
 
 few-gates : {n m o : ℕ} {rs : List Record} → WellFormed n m o rs → (rule : Rule) (g : ℕ) → gatesAfter n m rs rule g ≤ m + inserted n rule g
 few-gates {n} {m} {rs = rs} formed rule g = go (isSweep rule)

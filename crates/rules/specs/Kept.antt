@@ -13,7 +13,7 @@ use Rattle.rules.specs.Sweep.{stays, kept}
 use Rattle.rules.specs.Step.{inserted, ruleOf}
 use Rattle.rules.specs.declared.Step.{Step}
 use Rattle.rules.specs.declared.Rule.{Rule}
-use Rattle.rules.specs.declared.Rule.the-variants.{Exchange, Majority, Associativity, Outward, Inward, Inversion, Share, Sweep, Voter}
+use Rattle.rules.specs.declared.Rule.the-variants.{Exchange, Majority, Associativity, Outward, Inward, Inversion, Share, Sweep, Voter, Opposite}
 use Rattle.refusals.specs.Reply.{Reply, accepted, refused}
 use Rattle.majority.specs.declared.Record.{Record}
 
@@ -50,6 +50,7 @@ movesOf n rs Inversion g = inverting g
 movesOf n rs Share g = inPlace
 movesOf n rs Sweep g = closingUp (stays rs)
 movesOf n rs Voter g = raising g (inserted n Voter g)
+movesOf n rs Opposite g = inPlace
 
 -- after a step, of the rule that has its number; one of no rule is never taken
 abbrev pub movesAs : Reply Rule → ℕ → List Record → ℕ → Moves

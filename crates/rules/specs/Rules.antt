@@ -1,6 +1,6 @@
--- Rules 1 to 7 (SPEC 5.3), each as the form that it asks for and the table that it makes. g is the node number of a gate.
+-- Rules 1 to 7 and 10 (SPEC 5.3), each as the form that it asks for and the table that it makes. g is the node number of a gate.
 use Prim.Native.Nat.{ℕ, _+_, _*_}
-use mathlib.Core.Bool.{Bool, not, _&&_, _||_}
+use mathlib.Core.Bool.{Bool, not, _&&_}
 use mathlib.Core.List.{List, [], _∷_}
 use lib.Dec.{ltb, eqb}
 use Rattle.majority.specs.If.{if_then_else_}
@@ -20,15 +20,12 @@ exchanged a r = if eqb a 1 then gate (r .e2) (r .e1) (r .e3) else gate (r .e3) (
 unfoldable pub exchange : ℕ → ℕ → List Record → List Record
 exchange a g rs = become g (exchanged a (nodeRecord rs g)) rs
 
--- 2. Majority. First two edges equal: redirect g to the first. First two opposite: redirect g to the third
+-- 2. Majority. First two edges equal: redirect g to the first
 unfoldable pub majorityForm : Record → Bool
-majorityForm r = eqb (r .e2) (r .e1) || eqb (r .e2) (flip (r .e1))
-
-abbrev pub majorityEdge : Record → ℕ
-majorityEdge r = if eqb (r .e2) (r .e1) then r .e1 else r .e3
+majorityForm r = eqb (r .e2) (r .e1)
 
 unfoldable pub majorityRule : ℕ → List Record → List Record
-majorityRule g rs = redirectAll g (majorityEdge (nodeRecord rs g)) rs
+majorityRule g rs = redirectAll g (nodeRecord rs g .e1) rs
 
 -- among n inputs, the edge e names a gate and is not inverted
 abbrev pub plainGate : ℕ → ℕ → Bool
@@ -79,3 +76,10 @@ shareForm r s = eqb (s .e1) (r .e1) && eqb (s .e2) (r .e2) && eqb (s .e3) (r .e3
 
 unfoldable pub share : ℕ → ℕ → List Record → List Record
 share a g rs = redirectAll g (plain a) rs
+
+-- 10. Opposite. First two edges opposite: redirect g to the third
+unfoldable pub oppositeForm : Record → Bool
+oppositeForm r = eqb (r .e2) (flip (r .e1))
+
+unfoldable pub opposite : ℕ → List Record → List Record
+opposite g rs = redirectAll g (nodeRecord rs g .e3) rs

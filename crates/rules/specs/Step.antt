@@ -7,14 +7,14 @@ use lib.Dec.{ltb, leb, eqb}
 use Rattle.refusals.specs.Why.{why}
 use Rattle.majority.specs.If.{if_then_else_}
 use Rattle.majority.specs.Edit.{nodeRecord}
-use Rattle.rules.specs.Rules.{named, exchange, majorityForm, majorityRule, associativityForm, associativity, outwardForm, outward, inwardForm, inward, inversion, shareForm, share}
+use Rattle.rules.specs.Rules.{named, exchange, majorityForm, majorityRule, associativityForm, associativity, outwardForm, outward, inwardForm, inward, inversion, shareForm, share, oppositeForm, opposite}
 use Rattle.rules.specs.Sweep.{sweep}
 use Rattle.rules.specs.Voter.{voterForm, voter}
 use Rattle.refusals.specs.Reply.{Reply, accepted, refused, andThen}
 use Rattle.majority.specs.declared.Record.{Record}
 use Rattle.rules.specs.declared.Step.{Step}
 use Rattle.rules.specs.declared.Rule.{Rule}
-use Rattle.rules.specs.declared.Rule.the-variants.{Exchange, Majority, Associativity, Outward, Inward, Inversion, Share, Sweep, Voter}
+use Rattle.rules.specs.declared.Rule.the-variants.{Exchange, Majority, Associativity, Outward, Inward, Inversion, Share, Sweep, Voter, Opposite}
 use Rattle.rules.specs.declared.Asked.{Asked}
 use Rattle.rules.specs.declared.Asked.the-variants.{Zero, OneOrTwo, LowerGate, LowerPair}
 use Rattle.rules.specs.declared.Named.{Named}
@@ -24,7 +24,7 @@ use Rattle.rules.specs.declared.Named.the-variants.{Known, Unknown}
 abbrev pub stepWith : ℕ → ℕ → ℕ → ℕ → Step
 stepWith rule g a b = record { rule = rule; gate = g; a = a; b = b }
 
--- the rule of a number; 7 where it is not 1 to 9
+-- the rule of a number; 7 where it is not 1 to 10
 unfoldable pub ruleOf : ℕ → Reply Rule
 ruleOf k =
     if eqb k 1 then accepted Exchange
@@ -36,6 +36,7 @@ ruleOf k =
     else if eqb k 7 then accepted Share
     else if eqb k 8 then accepted Sweep
     else if eqb k 9 then accepted Voter
+    else if eqb k 10 then accepted Opposite
     else refused (why 7)
 
 -- the same for each case of the enum
@@ -54,6 +55,7 @@ isSweep Inversion = false
 isSweep Share = false
 isSweep Sweep = true
 isSweep Voter = false
+isSweep Opposite = false
 
 -- among n inputs and m gates, node g is a gate
 abbrev pub isGate : ℕ → ℕ → ℕ → Bool
@@ -74,6 +76,7 @@ askedOf Inversion = Zero
 askedOf Share = LowerGate
 askedOf Sweep = Zero
 askedOf Voter = LowerPair
+askedOf Opposite = Zero
 
 abbrev pub pairFits : ℕ → ℕ → Asked → ℕ → ℕ → ℕ → Bool
 pairFits n m Zero g a b = eqb a 0 && eqb b 0
@@ -96,6 +99,7 @@ hasForm n rs Inversion g a b = true
 hasForm n rs Share g a b = shareForm (nodeRecord rs g) (nodeRecord rs a)
 hasForm n rs Sweep g a b = true
 hasForm n rs Voter g a b = voterForm n g a b rs
+hasForm n rs Opposite g a b = oppositeForm (nodeRecord rs g)
 
 -- how many gates a rule inserts; the voter as many as it copies
 abbrev pub insertedOf : Rule → ℕ → ℕ
@@ -108,6 +112,7 @@ insertedOf Inversion copied = 0
 insertedOf Share copied = 0
 insertedOf Sweep copied = 0
 insertedOf Voter copied = copied
+insertedOf Opposite copied = 0
 
 -- a step on node g among n inputs; the gates from the first up to g are copied three times
 abbrev pub inserted : ℕ → Rule → ℕ → ℕ
@@ -124,6 +129,7 @@ rewritten n rs Inversion g a b = inversion g rs
 rewritten n rs Share g a b = share a g rs
 rewritten n rs Sweep g a b = sweep rs
 rewritten n rs Voter g a b = voter n g a b rs
+rewritten n rs Opposite g a b = opposite g rs
 
 -- by how much a step of this rule may raise depth: associativity and distributivity by one, the others not at all
 abbrev pub deepens : Rule → ℕ
@@ -136,6 +142,7 @@ deepens Inversion = 0
 deepens Share = 0
 deepens Sweep = 0
 deepens Voter = 0
+deepens Opposite = 0
 
 -- and by how much a voter step, which is counted apart, may: by one
 abbrev pub voters : Rule → ℕ
@@ -148,6 +155,7 @@ voters Inversion = 0
 voters Share = 0
 voters Sweep = 0
 voters Voter = 1
+voters Opposite = 0
 
 -- a step of a rule on a table of n inputs and m gates in a buffer of so many bytes
 unfoldable pub stepBy : ℕ → ℕ → ℕ → List Record → Rule → ℕ → ℕ → ℕ → Reply (List Record)

@@ -42,6 +42,7 @@ fn asked(rule: Rule) -> Asked
         Rule::Share => Asked::LowerGate,
         Rule::Sweep => Asked::Zero,
         Rule::Voter => Asked::LowerPair,
+        Rule::Opposite => Asked::Zero,
     }
 }
 
@@ -89,6 +90,7 @@ fn inserted_of(rule: Rule, copied: usize) -> usize
         Rule::Share => 0,
         Rule::Sweep => 0,
         Rule::Voter => copied,
+        Rule::Opposite => 0,
     }
 }
 

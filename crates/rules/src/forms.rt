@@ -5,7 +5,7 @@ use majority::inverted;
 use majority::node;
 ghost use mathlib.Core.Path.{_≡_};
 ghost use mathlib.Core.Bool.{_&&_};
-ghost use Rattle.rules.specs.Rules.{plainGate, majorityForm, associativityForm, outwardForm, inwardForm, shareForm};
+ghost use Rattle.rules.specs.Rules.{plainGate, majorityForm, associativityForm, outwardForm, inwardForm, shareForm, oppositeForm};
 ghost use Rattle.rules.specs.Voter.{among};
 
 // Among so many inputs, the edge names a gate and is not inverted.
@@ -18,7 +18,7 @@ pub fn plain_gate(inputs: usize, edge: u16) -> bool
 pub fn majority_form(r: Record) -> bool
     ensures { λ b. ⌜ b ≡ majorityForm r ⌝ }
 {
-    (r.e2 == r.e1) | (r.e2 == flipped(r.e1))
+    r.e2 == r.e1
 }
 
 // h is what the third edge names.
@@ -45,6 +45,12 @@ pub fn share_form(r: Record, other: Record) -> bool
     ensures { λ b. ⌜ b ≡ shareForm r other ⌝ }
 {
     (other.e1 == r.e1) & (other.e2 == r.e2) & (other.e3 == r.e3)
+}
+
+pub fn opposite_form(r: Record) -> bool
+    ensures { λ b. ⌜ b ≡ oppositeForm r ⌝ }
+{
+    r.e2 == flipped(r.e1)
 }
 
 // Both edges are among the record's.

@@ -6,7 +6,7 @@ ghost use mathlib.Core.Path.{_≡_};
 ghost use Rattle.majority.specs.Edge.{flip};
 ghost use Rattle.majority.specs.Table.{gate};
 ghost use Rattle.majority.specs.Edit.{edges};
-ghost use Rattle.rules.specs.Rules.{exchanged as exchangedGate, majorityEdge};
+ghost use Rattle.rules.specs.Rules.{exchanged as exchangedGate};
 
 fn gate_of(x: u16, y: u16, z: u16) -> Record
     ensures { λ r. ⌜ r ≡ gate x y z ⌝ }
@@ -27,13 +27,6 @@ pub fn exchanged(a: u16, r: Record) -> Record
         return gate_of(r.e2, r.e1, r.e3);
     }
     gate_of(r.e3, r.e2, r.e1)
-}
-
-// The edge to which the majority rule redirects a gate.
-pub fn majority_edge(r: Record) -> u16
-    ensures { λ e. ⌜ e ≡ majorityEdge r ⌝ }
-{
-    if r.e2 == r.e1 { r.e1 } else { r.e3 }
 }
 
 // Associativity, r being (x, u, h) and h being (y, u, z): the gate (y, u, x) that is inserted.

@@ -9,6 +9,7 @@ pub use forms::associativity_form;
 pub use forms::both_among;
 pub use forms::inward_form;
 pub use forms::majority_form;
+pub use forms::opposite_form;
 pub use forms::outward_form;
 pub use forms::plain_gate;
 pub use forms::share_form;
@@ -18,7 +19,6 @@ pub use gates::exchanged;
 pub use gates::inverted_gate;
 pub use gates::inward_gate;
 pub use gates::inward_new;
-pub use gates::majority_edge;
 pub use gates::outward_first;
 pub use gates::outward_gate;
 pub use gates::outward_second;
@@ -44,6 +44,7 @@ pub enum Rule {
     Share,
     Sweep,
     Voter,
+    Opposite,
 }
 
 // What a rule may ask of the fields a and b: a to be 0, 1 or 2, or a gate below the gate field, and b 0; or a and b to be nodes in rising order
@@ -74,6 +75,7 @@ pub fn rule_of(number: u16) -> Named
         7 => Named::Known(Rule::Share),
         8 => Named::Known(Rule::Sweep),
         9 => Named::Known(Rule::Voter),
+        10 => Named::Known(Rule::Opposite),
         _ => Named::Unknown,
     }
 }
@@ -92,5 +94,6 @@ pub fn is_sweep(rule: Rule) -> bool
         Rule::Share => false,
         Rule::Sweep => true,
         Rule::Voter => false,
+        Rule::Opposite => false,
     }
 }

@@ -8,7 +8,7 @@ use Rattle.majority.specs.Seek.{firstFrom}
 use Rattle.majority.specs.Check.{kindBefore, badKindAt, count, faulty, faultyAt, checkFields, checkKinds, checkRecords}
 use Rattle.majority.specs.Edge.{flip, raise, redirect}
 use Rattle.majority.specs.Edit.{redirectAll, insert, become}
-use Rattle.rules.specs.Rules.{majorityForm, majorityRule, associativityForm, associativity, outwardForm, outward}
+use Rattle.rules.specs.Rules.{majorityForm, majorityRule, associativityForm, associativity, outwardForm, outward, oppositeForm, opposite}
 use Rattle.rules.specs.Voter.{among, pairIn, hasPair, pairGate, pairPolarity, voterForm, copied, voter}
 use Rattle.rules.specs.Sweep.{member, stays, renumber, closeUp, sweep}
 use Rattle.translation.specs.Translate.{classOf, middle, place, gate3, parts3, translation, operations}
@@ -23,5 +23,5 @@ use Rattle.rewriting.specs.Script.{stepsFrom, runFrom, scriptRun}
 use Rattle.sheet.specs.Sheet.{Example, answerTo, sheet}
 
 pub answered : map (λ (e : Example). answerTo (e .question)) sheet ≡ map (λ (e : Example). e .answer) sheet
-unfolding evaluateOf reportOf outputNumber number outputValue depth highest worth worths recordWorth edgeWorth majorityOf above encode checkOf decode fieldOf fieldAt checkRecords checkKinds checkFields badKindAt kindBefore count faulty faultyAt firstFrom flip raise redirect redirectAll insert become majorityForm majorityRule associativityForm associativity outwardForm outward among pairIn hasPair pairGate pairPolarity voterForm copied voter member stays renumber closeUp sweep ruleOf fieldsFit hasForm rewritten stepBy step holding holdingInstead stepTable stepOf stepBytes stepsFrom runFrom scriptRun rm3Of classOf middle place gate3 parts3 translation operations
+unfolding evaluateOf reportOf outputNumber number outputValue depth highest worth worths recordWorth edgeWorth majorityOf above encode checkOf decode fieldOf fieldAt checkRecords checkKinds checkFields badKindAt kindBefore count faulty faultyAt firstFrom flip raise redirect redirectAll insert become majorityForm majorityRule associativityForm associativity outwardForm outward oppositeForm opposite among pairIn hasPair pairGate pairPolarity voterForm copied voter member stays renumber closeUp sweep ruleOf fieldsFit hasForm rewritten stepBy step holding holdingInstead stepTable stepOf stepBytes stepsFrom runFrom scriptRun rm3Of classOf middle place gate3 parts3 translation operations
 answered = refl

@@ -159,7 +159,7 @@ sheet =
     ∷ run P4 (on 2 2 ∷ []) ⟶ leaves 1 finished (input ∷ gate 2 2 0 ∷ output 3 ∷ [])
     ∷ run P4 (on 2 2 ∷ swept ∷ []) ⟶ leaves 2 finished (input ∷ output 3 ∷ [])
     ∷ translate (input ∷ output 3 ∷ []) ⟶ makes (input ∷ operation 0 2 1 ∷ output 3 ∷ [])
-    ∷ run P5 (on 2 2 ∷ []) ⟶ leaves 1 finished (input ∷ gate 2 3 0 ∷ output 1 ∷ [])
+    ∷ run P5 (on 10 2 ∷ []) ⟶ leaves 1 finished (input ∷ gate 2 3 0 ∷ output 1 ∷ [])
     ∷ run P6 (on 3 6 ∷ []) ⟶ leaves 1 finished (input ∷ input ∷ input ∷ input ∷ gate 6 4 8 ∷ gate 6 4 2 ∷ gate 8 4 12 ∷ output 14 ∷ [])
     ∷ run P6 (on 3 6 ∷ swept ∷ []) ⟶ leaves 2 finished (input ∷ input ∷ input ∷ input ∷ gate 6 4 2 ∷ gate 8 4 10 ∷ output 12 ∷ [])
     ∷ run P7 (on 4 7 ∷ []) ⟶ leaves 1 finished (input ∷ input ∷ input ∷ input ∷ input ∷ gate 6 8 10 ∷ gate 2 4 6 ∷ gate 2 4 8 ∷ gate 14 16 10 ∷ output 18 ∷ [])

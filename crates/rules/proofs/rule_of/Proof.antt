@@ -42,7 +42,11 @@ returns-9 c = rw (c .match .keys9)
 
 returns-10 : tie.Need-returns-10
 unfolding ruleOf
-returns-10 c = rw (ne-eqb _ 1 (c .match .rest .0 .0 .0 .0 .0 .0 .0 .0 .1), ne-eqb _ 2 (c .match .rest .0 .0 .0 .0 .0 .0 .0 .1), ne-eqb _ 3 (c .match .rest .0 .0 .0 .0 .0 .0 .1), ne-eqb _ 4 (c .match .rest .0 .0 .0 .0 .0 .1), ne-eqb _ 5 (c .match .rest .0 .0 .0 .0 .1), ne-eqb _ 6 (c .match .rest .0 .0 .0 .1), ne-eqb _ 7 (c .match .rest .0 .0 .1), ne-eqb _ 8 (c .match .rest .0 .1), ne-eqb _ 9 (c .match .rest .1))
+returns-10 c = rw (c .match .keys10)
+
+returns-11 : tie.Need-returns-11
+unfolding ruleOf
+returns-11 c = rw (ne-eqb _ 1 (c .match .rest .0 .0 .0 .0 .0 .0 .0 .0 .0 .1), ne-eqb _ 2 (c .match .rest .0 .0 .0 .0 .0 .0 .0 .0 .1), ne-eqb _ 3 (c .match .rest .0 .0 .0 .0 .0 .0 .0 .1), ne-eqb _ 4 (c .match .rest .0 .0 .0 .0 .0 .0 .1), ne-eqb _ 5 (c .match .rest .0 .0 .0 .0 .0 .1), ne-eqb _ 6 (c .match .rest .0 .0 .0 .0 .1), ne-eqb _ 7 (c .match .rest .0 .0 .0 .1), ne-eqb _ 8 (c .match .rest .0 .0 .1), ne-eqb _ 9 (c .match .rest .0 .1), ne-eqb _ 10 (c .match .rest .1))
 
 pub rule-of-spec : {M : Type 1} → statement M
 rule-of-spec =
@@ -57,4 +61,5 @@ rule-of-spec =
     returns-7
     returns-8
     returns-9
-    returns-10)
+    returns-10
+    returns-11)

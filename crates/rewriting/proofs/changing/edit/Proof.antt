@@ -3,7 +3,7 @@ use borrow.Author.Needs.{needs}
 use mathlib.Core.Path.{_∙_}
 use mathlib.Core.Bool.{true≢false}
 use native.Mathlib.Omega.{arith}
-use Rattle.rules.specs.Rules.{majorityRule, share}
+use Rattle.rules.specs.Rules.{majorityRule, share, opposite}
 use Rattle.rules.specs.Step.{hasForm, rewritten}
 use Rattle.rules.proofs.AcceptedStep.{share-field, voter-field}
 use Rattle.rewriting.proofs.Gate.{fit-gate, at-node, gate-at}
@@ -22,11 +22,8 @@ enum-told-2 c = search needs
 node-record-requires : tie.Need-node-record-requires
 node-record-requires c κs = search needs
 
-majority-edge-requires : tie.Need-majority-edge-requires
-majority-edge-requires c κs = search needs
-
 redirect-gate-requires : tie.Need-redirect-gate-requires
-redirect-gate-requires c κs = fit-gate (c .before .before .before .before .before .before .before .pre .0) (c .before .before .before .before .before .before .before .pre .1)
+redirect-gate-requires c κs = fit-gate (c .before .before .before .before .before .before .pre .0) (c .before .before .before .before .before .before .pre .1)
 
 enum-told-3 : tie.Need-enum-told-3
 enum-told-3 c = search needs
@@ -76,6 +73,15 @@ vote-requires c κs = let fit = c .before .before .before .before .pre .0 in
     let w = voter-field _ _ _ _ _ (rw told at (fit .fields)) in
     record { at = fit-gate fit (c .before .before .before .before .pre .1); order = w .1; below = w .2; form = rw told at (fit .form); few = rw told at (fit .few); room = rw told at (fit .room) }
 
+enum-told-10 : tie.Need-enum-told-10
+enum-told-10 c = search needs
+
+node-record-requires-2 : tie.Need-node-record-requires-2
+node-record-requires-2 c κs = search needs
+
+redirect-gate-requires-3 : tie.Need-redirect-gate-requires-3
+redirect-gate-requires-3 c κs = fit-gate (c .before .before .before .before .before .before .pre .0) (c .before .before .before .before .before .before .pre .1)
+
 same-length : tie.Need-same-length
 same-length c = search needs
 
@@ -88,8 +94,8 @@ same-length-2 c = search needs
 
 returns-2 : tie.Need-returns-2
 unfolding rewritten majorityRule
-returns-2 c = let at = fit-gate (c .before .before .before .before .before .before .before .before .before .before .pre .0) (c .before .before .before .before .before .before .before .before .before .before .pre .1) in
-    rw (c .before .before .before .before .before .before .before .enum-told2 .given .1) (c .before .before .redirect-gate .ensures ∙ rw (c .before .before .before .majority-edge .ensures, c .before .before .before .before .node-record .ensures, gate-at at))
+returns-2 c = let at = fit-gate (c .before .before .before .before .before .before .before .before .before .pre .0) (c .before .before .before .before .before .before .before .before .before .pre .1) in
+    rw (c .before .before .before .before .before .before .enum-told2 .given .1) (c .before .before .redirect-gate .ensures ∙ rw (c .before .before .before .node-record .ensures, gate-at at))
 
 same-length-3 : tie.Need-same-length-3
 same-length-3 c = search needs
@@ -136,6 +142,14 @@ returns-9 : tie.Need-returns-9
 unfolding rewritten
 returns-9 c = rw (c .before .before .before .before .enum-told9 .given .1) (c .before .before .vote .ensures)
 
+same-length-9 : tie.Need-same-length-9
+same-length-9 c = search needs
+
+returns-10 : tie.Need-returns-10
+unfolding rewritten opposite
+returns-10 c = let at = fit-gate (c .before .before .before .before .before .before .before .before .before .pre .0) (c .before .before .before .before .before .before .before .before .before .pre .1) in
+    rw (c .before .before .before .before .before .before .enum-told10 .given .1) (c .before .before .redirect-gate3 .ensures ∙ rw (c .before .before .before .node-record2 .ensures, gate-at at))
+
 pub edit-spec : {M : Type 1} → statement M
 edit-spec =
     tie.close
@@ -144,7 +158,6 @@ edit-spec =
     exchange-requires
     enum-told-2
     node-record-requires
-    majority-edge-requires
     redirect-gate-requires
     enum-told-3
     associativity-requires
@@ -160,6 +173,9 @@ edit-spec =
     enum-told-8
     enum-told-9
     vote-requires
+    enum-told-10
+    node-record-requires-2
+    redirect-gate-requires-3
     same-length
     returns
     same-length-2
@@ -176,4 +192,6 @@ edit-spec =
     returns-7
     returns-8
     same-length-8
-    returns-9)
+    returns-9
+    same-length-9
+    returns-10)

@@ -3,7 +3,7 @@ use borrow.Author.Needs.{needs}
 use mathlib.Core.Path.{refl, _∙_}
 use native.Mathlib.Omega.{arith}
 use Rattle.rules.specs.Step.{hasForm}
-use Rattle.rules.specs.declared.Rule.the-variants.{Majority, Associativity, Outward, Inward, Share, Voter}
+use Rattle.rules.specs.declared.Rule.the-variants.{Majority, Associativity, Outward, Inward, Share, Voter, Opposite}
 use Rattle.rules.proofs.AcceptedStep.{share-field, voter-field}
 use Rattle.rewriting.proofs.Gate.{at-gate, node-at, gate-at, first-at, second-at, third-at}
 use Rattle.rewriting.proofs.forms.has_form.Statement.{statement}
@@ -71,6 +71,12 @@ voter-form-requires c κs = let fields = rw (c .enum-told9 .given .1) at (c .bef
     let w = voter-field _ _ _ _ _ fields in
     (at-gate (c .before .before .before .before .pre .0) Voter _ _ _ fields refl, w .1, w .2)
 
+enum-told-10 : tie.Need-enum-told-10
+enum-told-10 c = search needs
+
+opposite-form-requires : tie.Need-opposite-form-requires
+opposite-form-requires c κs = search needs
+
 returns : tie.Need-returns
 unfolding hasForm
 returns c = rw (c .enum-told .given .1)
@@ -114,6 +120,11 @@ returns-9 : tie.Need-returns-9
 unfolding hasForm
 returns-9 c = rw (c .before .enum-told9 .given .1) (c .voter-form .ensures)
 
+returns-10 : tie.Need-returns-10
+unfolding hasForm
+returns-10 c = let at = at-gate (c .before .before .before .before .before .pre .0) Opposite _ _ _ (rw (c .before .enum-told10 .given .1) at (c .before .before .before .before .before .pre .1)) refl in
+    rw (c .before .enum-told10 .given .1) (c .opposite-form .ensures ∙ rw (c .before .before .before .node-record .ensures, gate-at at))
+
 pub has-form-spec : {M : Type 1} → statement M
 has-form-spec =
     tie.close
@@ -138,6 +149,8 @@ has-form-spec =
     enum-told-8
     enum-told-9
     voter-form-requires
+    enum-told-10
+    opposite-form-requires
     returns
     returns-2
     returns-3
@@ -146,4 +159,5 @@ has-form-spec =
     returns-6
     returns-7
     returns-8
-    returns-9)
+    returns-9
+    returns-10)
