@@ -15,7 +15,7 @@ use Rattle.rules.specs.declared.Step.{Step}
 use Rattle.rules.proofs.Kept.{kept-then}
 use Rattle.tables.specs.Calls.{checkOf}
 use Rattle.rewriting.specs.Calls.{stepOf, stepBytes}
-use Rattle.rewriting.specs.Script.{Run, stopped, stepsOf, byReply, runFrom, untaken, scriptRun}
+use Rattle.rewriting.specs.Script.{Run, stopped, stepsOf, byReply, runBy, runFrom, untaken, scriptBy, scriptRun}
 use Rattle.demands.specs.Demand3.{counted, countedTaken}
 use Rattle.demands.proofs.OneStep.{Between, between-same, between-step}
 
@@ -40,7 +40,7 @@ unfolding counted
 ran-none taken n m o xs used steps run is t b u = record { more = 0; adds = omega arith; between = rw (b, u) (between-same xs used n m o is) }
 
 ran : (steps : List Step) (taken n m o : ℕ) (xs : List ℕ) (used : ℕ) → checkOf xs used ≡ accepted (counts n m o) → Ran taken n m o xs used steps (runFrom taken xs used steps)
-unfolding runFrom counted
+unfolding runBy counted
 ran [] taken n m o xs used is = ran-none taken n m o xs used [] _ is refl refl refl
 ran (s ∷ steps) taken n m o xs used is = go (stepOf xs used s) refl (λ m′ ys next is′. ran steps (taken + 1) n m′ o ys next is′)
   where
@@ -56,7 +56,7 @@ ran (s ∷ steps) taken n m o xs used is = go (stepOf xs used s) refl (λ m′ y
 -- a script, whatever it is
 module _ (xs : List ℕ) (used n m o : ℕ) (is : checkOf xs used ≡ accepted (counts n m o)) (script : List ℕ) where
   whole : Ran 0 n m o xs used (stepsOf script) (scriptRun xs used script)
-  unfolding scriptRun
+  unfolding scriptBy
   whole = rw is (go (not (eqb (length script % 8) 0)))
     where
       go : (odd : Bool) → Ran 0 n m o xs used (stepsOf script) (if odd then untaken (why 12) xs used else runFrom 0 xs used (stepsOf script))

@@ -11,7 +11,7 @@ use Rattle.rules.specs.declared.Step.{Step}
 use Rattle.majority.specs.declared.Record.{Record}
 use Rattle.refusals.specs.declared.Refusal.{Refusal}
 use Rattle.rewriting.specs.Calls.{afterReply, stepTable, stepOf, stepBytes, saidStep}
-use Rattle.rewriting.specs.Script.{finished, stepAt, stepsFrom, runFrom, runOf, progressAfter}
+use Rattle.rewriting.specs.Script.{finished, stepAt, stepsFrom, runBy, runFrom, runOf, progressAfter}
 use Rattle.rewriting.specs.declared.Ending.the-variants.{Finished, Stopped}
 use Rattle.rewriting.specs.declared.Progress.{Progress}
 use Rattle.rewriting.specs.declared.Stepped.{Stepped}
@@ -34,7 +34,7 @@ module _ (xs : List ℕ) (p p′ : Progress) (s : Step) (rest : List Step) where
     pub onward : runFrom (p .taken) xs (p .used) (s ∷ rest) ≡ runFrom (p′ .taken) (stepBytes xs (p .used) s) (p′ .used) rest
 
   pub turn-on : (o : Stepped) → p′ ≡ progressAfter p o → saidStep o ≡ stepOf xs (p .used) s → p′ .ending ≡ Finished → On
-  unfolding runFrom
+  unfolding runBy
   turn-on (Used n) e said going = record { taken = rw e (sym said); more = rw e; onward = rw (e, ← said) }
   turn-on (Refused x) e said going =
       let shut : Stopped x ≡ Finished = ap (λ (q : Progress). q .ending) (sym e) ∙ going in
@@ -44,7 +44,7 @@ module _ (xs : List ℕ) (p p′ : Progress) (s : Step) (rest : List Step) where
   -- a turn that stops
   pub turn-off : (o : Stepped) → p′ ≡ progressAfter p o → saidStep o ≡ stepOf xs (p .used) s → {refusal : Refusal} → p′ .ending ≡ Stopped refusal
       → runOf p′ (stepBytes xs (p .used) s) ≡ runFrom (p .taken) xs (p .used) (s ∷ rest)
-  unfolding runFrom
+  unfolding runBy
   turn-off (Used n) e said {refusal} shut =
       let going : Finished ≡ Stopped refusal = ap (λ (q : Progress). q .ending) (sym e) ∙ shut in
       let z : _≡_ {A = ℕ} 0 1 = cc in
@@ -60,5 +60,5 @@ step-next steps n i h = let e : n - i ≡ suc (n - (i + 1)) = omega arith in rw 
 
 pub steps-end : (steps : List ℕ) (taken used n i : ℕ) (xs : List ℕ) → n ≤ i
     → runFrom taken xs used (stepsFrom steps i (n - i)) ≡ record { taken = taken; end = finished; used = used; bytes = xs }
-unfolding runFrom stepsFrom
+unfolding runBy stepsFrom
 steps-end steps taken used n i xs h = let e : n - i ≡ 0 = omega arith in rw e

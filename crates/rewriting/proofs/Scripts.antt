@@ -11,18 +11,18 @@ use Rattle.tables.specs.Said.{saidCheck}
 use Rattle.refusals.specs.declared.Refusal.{Refusal}
 use Rattle.tables.specs.declared.Checked.{Checked}
 use Rattle.tables.specs.declared.Checked.the-variants.{Accepted, Refused}
-use Rattle.rewriting.specs.Script.{scriptRun, runFrom, stepsOf, untaken}
+use Rattle.rewriting.specs.Script.{scriptBy, scriptRun, runFrom, stepsOf, untaken}
 
 module _ (xs : List ℕ) (used : ℕ) (steps : List ℕ) (r : Checked) (said : saidCheck r ≡ checkOf xs used) where
   module _ (c : Counts) (is : r ≡ Accepted c) where
     pub script-uneven : (length steps % 8 ≡ 0 → ⊥) → scriptRun xs used steps ≡ untaken (why 12) xs used
-    unfolding scriptRun
+    unfolding scriptBy
     script-uneven odd = rw (sym said, is, ne-eqb (length steps % 8) 0 odd)
 
     pub script-runs : length steps % 8 ≡ 0 → scriptRun xs used steps ≡ runFrom 0 xs used (stepsOf steps)
-    unfolding scriptRun
+    unfolding scriptBy
     script-runs even = rw (sym said, is, eq-eqb (length steps % 8) 0 even)
 
   pub script-refused : (refusal : Refusal) → r ≡ Refused refusal → scriptRun xs used steps ≡ untaken (whyOf refusal) xs used
-  unfolding scriptRun
+  unfolding scriptBy
   script-refused refusal is = rw (sym said, is)

@@ -45,29 +45,38 @@ abbrev pub stepsOf : List ℕ → List Step
 stepsOf xs = stepsFrom xs 0 (length xs / 8)
 
 -- what follows an accepted step, or a refused one
-abbrev pub byReply : Reply ℕ → (ℕ → Run) → (Why → Run) → Run
+abbrev pub byReply : {A : Type 0} → Reply ℕ → (ℕ → A) → (Why → A) → A
 byReply (accepted used) on stop = on used
 byReply (refused w) on stop = stop w
-
--- the steps, one after another, where `taken` were taken before
-unfoldable pub runFrom : ℕ → List ℕ → ℕ → List Step → Run
-runFrom taken xs used [] = record { taken = taken; end = finished; used = used; bytes = xs }
-runFrom taken xs used (s ∷ steps) =
-    byReply (stepOf xs used s)
-    (λ next. runFrom (taken + 1) (stepBytes xs used s) next steps)
-    (λ w. record { taken = taken; end = stopped w; used = used; bytes = xs })
 
 -- no step is taken
 abbrev pub untaken : Why → List ℕ → ℕ → Run
 untaken w xs used = record { taken = 0; end = stopped w; used = used; bytes = xs }
 
-abbrev pub afterCheck : Reply Counts → List ℕ → ℕ → List ℕ → Run
-afterCheck (refused w) xs used steps = untaken w xs used
-afterCheck (accepted c) xs used steps = if not (eqb (length steps % 8) 0) then untaken (why 12) xs used else runFrom 0 xs used (stepsOf steps)
+-- where a step on the first `used` bytes of a buffer replies `reply` and leaves the bytes `left`
+module _ (reply : List ℕ → ℕ → Step → Reply ℕ) (left : List ℕ → ℕ → Step → List ℕ) where
+  -- the steps, one after another, where `taken` were taken before
+  unfoldable pub runBy : ℕ → List ℕ → ℕ → List Step → Run
+  runBy taken xs used [] = record { taken = taken; end = finished; used = used; bytes = xs }
+  runBy taken xs used (s ∷ steps) =
+      byReply (reply xs used s)
+      (λ next. runBy (taken + 1) (left xs used s) next steps)
+      (λ w. record { taken = taken; end = stopped w; used = used; bytes = xs })
 
--- a script: refusals 1 to 5 of the table, then 12, then its steps
-unfoldable pub scriptRun : List ℕ → ℕ → List ℕ → Run
-scriptRun xs used steps = afterCheck (checkOf xs used) xs used steps
+  abbrev pub afterCheck : Reply Counts → List ℕ → ℕ → List ℕ → Run
+  afterCheck (refused w) xs used steps = untaken w xs used
+  afterCheck (accepted c) xs used steps = if not (eqb (length steps % 8) 0) then untaken (why 12) xs used else runBy 0 xs used (stepsOf steps)
+
+  -- a script: refusals 1 to 5 of the table, then 12, then its steps
+  unfoldable pub scriptBy : List ℕ → ℕ → List ℕ → Run
+  scriptBy xs used steps = afterCheck (checkOf xs used) xs used steps
+
+-- with the steps that `step` takes
+abbrev pub runFrom : ℕ → List ℕ → ℕ → List Step → Run
+runFrom = runBy stepOf stepBytes
+
+abbrev pub scriptRun : List ℕ → ℕ → List ℕ → Run
+scriptRun = scriptBy stepOf stepBytes
 
 -- the end of each case of the enum, and the reply
 abbrev pub saidEnd : Ending → End

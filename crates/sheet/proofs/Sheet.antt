@@ -19,9 +19,9 @@ use Rattle.tables.specs.Calls.{checkOf}
 use Rattle.questions.specs.Calls.{evaluateOf, reportOf}
 use Rattle.rm3.specs.Calls.{rm3Of}
 use Rattle.rewriting.specs.Calls.{holdingInstead, stepTable, stepOf, stepBytes}
-use Rattle.rewriting.specs.Script.{stepsFrom, runFrom, scriptRun}
+use Rattle.rewriting.specs.Script.{stepsFrom, runBy, scriptBy}
 use Rattle.sheet.specs.Sheet.{Example, answerTo, sheet}
 
 pub answered : map (λ (e : Example). answerTo (e .question)) sheet ≡ map (λ (e : Example). e .answer) sheet
-unfolding evaluateOf reportOf outputNumber number outputValue depth highest worth worths recordWorth edgeWorth majorityOf above encode checkOf decode fieldOf fieldAt checkRecords checkKinds checkFields badKindAt kindBefore count faulty faultyAt firstFrom flip raise redirect redirectAll insert become majorityForm majorityRule associativityForm associativity outwardForm outward oppositeForm opposite among pairIn hasPair pairGate pairPolarity voterForm copied voter member stays renumber closeUp sweep ruleOf fieldsFit hasForm rewritten stepBy step holding holdingInstead stepTable stepOf stepBytes stepsFrom runFrom scriptRun rm3Of classOf middle place gate3 parts3 translation operations
+unfolding evaluateOf reportOf outputNumber number outputValue depth highest worth worths recordWorth edgeWorth majorityOf above encode checkOf decode fieldOf fieldAt checkRecords checkKinds checkFields badKindAt kindBefore count faulty faultyAt firstFrom flip raise redirect redirectAll insert become majorityForm majorityRule associativityForm associativity outwardForm outward oppositeForm opposite among pairIn hasPair pairGate pairPolarity voterForm copied voter member stays renumber closeUp sweep ruleOf fieldsFit hasForm rewritten stepBy step holding holdingInstead stepTable stepOf stepBytes stepsFrom runBy scriptBy rm3Of classOf middle place gate3 parts3 translation operations
 answered = refl
