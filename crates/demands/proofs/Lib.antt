@@ -2,3 +2,7 @@ pub mod OneStep  -- one step keeps what it must
 pub mod OneScript  -- one script does
 pub mod Demand3  -- so do scripts one after another
 pub mod Demand3Rm3  -- and the RM3 table of what they leave
+-- stored scripts
+mod Renumbered  -- a script of which one step is numbered 10
+mod ConvertedStep  -- a converted step does what the step did
+pub mod Converted  -- and so does a converted script

@@ -16,7 +16,7 @@ mod Swept  -- closed up and cleared is swept
 -- steps and scripts
 mod HoldingInstead  -- a table in place of another, in bytes
 mod CheckedStep  -- a step on a table that was checked
-mod Replies  -- what a step replies and leaves
+pub mod Replies  -- what a step replies and leaves
 pub mod SoundAfterStep  -- after a step the buffer holds a sound table
 pub mod ScriptTurns  -- a script, one turn at a time
 mod Scripts  -- what a script is, from the check and its length

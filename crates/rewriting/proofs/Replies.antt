@@ -54,7 +54,7 @@ module _ {xs : List ℕ} {c : Counts} (sound : Sound xs c) (s : Step) (gates : �
   pub taken-made : {r : Applied} {ys : List ℕ} → AppliedTo xs c (stepIn xs c s) r ys → r ≡ AppliedTaken gates → Made xs c s gates
   taken-made done e = made (ap saidApplied (sym e) ∙ done .reply)
 
-not-taken : {A B : Type 0} (r : Reply A) (f : A → B) (w : Why) → refused w ≡ andThen r (λ x. accepted (f x)) → r ≡ refused w
+pub not-taken : {A B : Type 0} (r : Reply A) (f : A → B) (w : Why) → refused w ≡ andThen r (λ x. accepted (f x)) → r ≡ refused w
 not-taken (accepted x) f w e = let z : _≡_ {A = ℕ} 0 1 = cc in absurd (omega arith)
 not-taken (refused v) f w e = let same : v ≡ w = cc in ap refused same
 
