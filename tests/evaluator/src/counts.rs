@@ -37,7 +37,7 @@ fn possible(operation: u8) -> &'static [usize] {
 /// The refusals of a step that a rule can meet; 7 is met by a voter under a number that is no rule's.
 fn possible_of_rule(rule: usize) -> &'static [usize] {
     match rule {
-        2 | 7 => &[8, 9],
+        2 | 7 | 10 => &[8, 9],
         3..=5 => &[8, 9, 10, 11],
         9 => &[7, 8, 9, 10, 11],
         _ => &[8],

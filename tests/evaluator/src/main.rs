@@ -7,6 +7,8 @@ mod counts;
 mod difference;
 #[cfg(test)]
 mod edge_tests;
+#[cfg(test)]
+mod first_two_tests;
 mod pipe;
 mod random;
 mod reading;

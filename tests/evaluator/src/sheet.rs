@@ -24,7 +24,7 @@ fn check(records: &[Record]) -> Result<Network, [u32; 3]> {
     table(records).network().map_err(|Refusal { number, record, edge }| [number, record, edge])
 }
 
-fn step(network: &Network, rule: u16, gate: u16) -> Result<Network, u32> {
+pub fn step(network: &Network, rule: u16, gate: u16) -> Result<Network, u32> {
     let result = apply(network, Step { rule, gate, a: 0, b: 0 }, 65_536);
     result.map_err(|refusal| refusal.number)
 }
@@ -74,7 +74,7 @@ fn p4_and_p5() {
     assert_eq!(swept, network(1, [], &[3]));
     assert_eq!(translate(&swept), rm3(1, &[[0, 2, 1]], &[3]));
     let p5 = network(1, [[2, 3, 0]], &[5]);
-    assert_eq!(step(&p5, 2, 2).unwrap().outputs, [Edge::of(1)]);
+    assert_eq!(step(&p5, 10, 2), Ok(network(1, [[2, 3, 0]], &[1])));
 }
 
 #[test]
@@ -126,7 +126,7 @@ fn rule_3_at_the_limit() {
     assert_eq!(step(&full, 3, 4), Err(10));
     assert_eq!(step(&full, 3, 3), Err(9));
     assert_eq!(step(&full, 3, 2), Err(8));
-    assert_eq!(step(&full, 10, 2), Err(7));
+    assert_eq!(step(&full, 11, 2), Err(7));
 }
 
 #[test]

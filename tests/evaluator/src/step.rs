@@ -1,4 +1,4 @@
-//! One step: the nine rules on the network, with refusals 7 to 11.
+//! One step: the ten rules on the network, with refusals 7 to 11.
 //!
 //! A rule first says what it plans. While a plan is carried out every gate keeps the name it had, its old node
 //! number, and new gates get names above all others; node numbers are given again at the end.
@@ -7,7 +7,7 @@ use crate::table::{Edge, Gate, Network, Refusal, MOST_GATES};
 use crate::voter;
 
 /// The rules are numbered from 1 up to this.
-pub const LAST_RULE: u16 = 9;
+pub const LAST_RULE: u16 = 10;
 
 #[derive(Clone, Copy, PartialEq, Eq, Debug)]
 pub struct Step {
@@ -27,6 +27,24 @@ impl Step {
     }
 }
 
+/// How the first two edges of a gate stand to each other.
+#[derive(Clone, Copy, PartialEq, Eq, Debug)]
+pub enum FirstTwo {
+    Equal,
+    Opposite,
+    Neither,
+}
+
+impl FirstTwo {
+    pub fn of([first, second, _]: Gate) -> FirstTwo {
+        match (first.node == second.node, first.inverted == second.inverted) {
+            (true, true) => FirstTwo::Equal,
+            (true, false) => FirstTwo::Opposite,
+            (false, _) => FirstTwo::Neither,
+        }
+    }
+}
+
 /// What a step does to its gate g and to the edges that name g.
 pub enum Plan {
     Become(Gate),
@@ -37,7 +55,7 @@ pub enum Plan {
 }
 
 /// Whether gate, a and b are allowed for the rule (else refusal 8).
-fn fields_allowed(network: &Network, step: Step) -> bool {
+pub fn fields_allowed(network: &Network, step: Step) -> bool {
     let is_gate = |node: u16| network.gate(usize::from(node)).is_some();
     let gate_fits = if step.rule == 8 { step.gate == 0 } else { is_gate(step.gate) };
     let a_fits = match step.rule {
@@ -55,15 +73,15 @@ pub fn plan(network: &Network, step: Step) -> Option<Plan> {
     if step.rule == 8 {
         return Some(Plan::Sweep);
     }
-    let [first, second, third] = network.gate(usize::from(step.gate))?;
+    let gate = network.gate(usize::from(step.gate))?;
+    let [first, second, third] = gate;
     let uninverted_gate = |edge: Edge| network.gate(edge.node).filter(|_| !edge.inverted);
     let new = Edge::plain(network.nodes());
     let next_new = Edge::plain(network.nodes() + 1);
     match step.rule {
         1 if step.a == 1 => Some(Plan::Become([second, first, third])),
         1 => Some(Plan::Become([third, second, first])),
-        2 if first == second => Some(Plan::Redirect(first)),
-        2 if first.node == second.node => Some(Plan::Redirect(third)),
+        2 => (FirstTwo::of(gate) == FirstTwo::Equal).then_some(Plan::Redirect(first)),
         3 => {
             let [y, u, z] = uninverted_gate(third)?;
             (u == second).then(|| Plan::Insert(vec![[y, u, first]], [z, u, new]))
@@ -81,9 +99,10 @@ pub fn plan(network: &Network, step: Step) -> Option<Plan> {
         6 => Some(Plan::Invert),
         7 => {
             let below = usize::from(step.a);
-            (network.gate(below)? == [first, second, third]).then(|| Plan::Redirect(Edge::plain(below)))
+            (network.gate(below)? == gate).then(|| Plan::Redirect(Edge::plain(below)))
         }
         9 => voter::plan(network, usize::from(step.gate), usize::from(step.a), usize::from(step.b)),
+        10 => (FirstTwo::of(gate) == FirstTwo::Opposite).then_some(Plan::Redirect(third)),
         _ => None,
     }
 }
@@ -168,8 +187,13 @@ pub fn apply(network: &Network, step: Step, room: usize) -> Result<Network, Refu
         return Err(Refusal::plain(8));
     }
     let plan = plan(network, step).ok_or(Refusal::plain(9))?;
+    carried_out(network, usize::from(step.gate), plan, room)
+}
+
+/// The network after what was planned for its gate g, unless that has too many gates or does not fit the buffer.
+pub fn carried_out(network: &Network, g: usize, plan: Plan, room: usize) -> Result<Network, Refusal> {
     let mut draft = Draft::of(network);
-    draft.carry_out(plan, usize::from(step.gate));
+    draft.carry_out(plan, g);
     let result = draft.numbered();
     if result.gates.len() > MOST_GATES {
         return Err(Refusal::plain(10));

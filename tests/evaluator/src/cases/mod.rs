@@ -78,7 +78,7 @@ fn any_assignment(random: &mut Random) -> u32 {
 
 /// A step whose fields are often allowed for a small table.
 fn any_step(random: &mut Random) -> Step {
-    let rule = random.pick(&[0, 1, 2, 3, 4, 5, 6, 7, 8, 8, 8, 9, 10, 65535]);
+    let rule = random.pick(&[0, 1, 2, 3, 4, 5, 6, 7, 8, 8, 8, 9, 10, 11, 65535]);
     let gate = if rule == 8 { 0 } else { random.below(12) };
     let a = if rule == 1 || rule == 9 { random.between(1, 2) } else { 0 };
     let b = match rule == 9 {

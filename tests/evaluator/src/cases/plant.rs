@@ -59,8 +59,7 @@ impl Plant {
         let [x, y, u, v] = [0; 4].map(|_| self.edge(random));
         match rule {
             2 => {
-                let second = x.inverted_if(random.once_in(2));
-                self.add([x, second, y]);
+                self.add([x, x, y]);
             }
             3 => {
                 let h = self.add([y, u, v]);
@@ -91,6 +90,9 @@ impl Plant {
             9 => {
                 let shape = Shape::of(random.below(Shape::COUNT));
                 voters::add_form(self, random, shape);
+            }
+            10 => {
+                self.add([x, x.inverted_if(true), y]);
             }
             _ => {
                 self.add([x, y, u]);

@@ -77,7 +77,7 @@ impl Draft {
 
     fn grow_some(&mut self, random: &mut Random, steps: usize) {
         for _ in 0..steps {
-            self.grow(random, &[1, 1, 2, 3, 3, 4, 4, 5, 6, 6, 7, 8, 9]);
+            self.grow(random, &[1, 1, 2, 3, 3, 4, 4, 5, 6, 6, 7, 8, 9, 10]);
         }
     }
 
@@ -86,7 +86,7 @@ impl Draft {
         let gate = (self.network.nodes() - 1) as u16;
         let bad = match turn % 9 {
             0 => [0, gate, 1, 0],
-            1 => [10, gate, 1, 2],
+            1 => [11, gate, 1, 2],
             2 => [6, gate + 1, 0, 0],
             3 => [8, 0, 0, 1],
             4 => [1, gate, 3, 0],
@@ -95,7 +95,7 @@ impl Draft {
             7 => [9, gate, random.between(1, 4) as u16, gate.saturating_sub(1)],
             _ => {
                 let fits = |&rule: &u16| plan(&self.network, Step { rule, gate, a: 0, b: 0 }).is_some();
-                let rules: Vec<u16> = (2..=5).filter(|rule| !fits(rule)).collect();
+                let rules: Vec<u16> = [2, 3, 4, 5, 10].into_iter().filter(|rule| !fits(rule)).collect();
                 [if rules.is_empty() { 65535 } else { random.pick(&rules) }, gate, 0, 0]
             }
         };
@@ -149,7 +149,7 @@ fn sweep_and_grow(random: &mut Random, _turn: usize) -> Request {
     let network = networks::chain(random, 4, gates, 1);
     let mut draft = Draft::new(random, network, behind);
     for _ in 0..random.between(10, 60) {
-        if !draft.grow(random, &[3, 4, 5, 9, 3, 4, 5, 9, 2, 6]) {
+        if !draft.grow(random, &[3, 4, 5, 9, 3, 4, 5, 9, 2, 6, 10]) {
             draft.grow(random, &[8, 1]);
         }
     }
@@ -192,8 +192,8 @@ fn voters(random: &mut Random, _turn: usize) -> Request {
     let network = networks::chain(random, 4, gates, 3);
     let mut draft = Draft::new(random, network, 8 * room);
     for _ in 0..random.between(4, 40) {
-        if !draft.grow(random, &[9, 9, 9, 9, 2, 6]) {
-            draft.grow(random, &[2, 7, 8, 8]);
+        if !draft.grow(random, &[9, 9, 9, 9, 2, 6, 10]) {
+            draft.grow(random, &[2, 7, 8, 8, 10]);
         }
     }
     draft.request()
@@ -210,13 +210,13 @@ fn long(random: &mut Random, wanted: usize, most_gates: usize) -> Request {
             failures += usize::from(!draft.grow(random, &[1, 3, 3, 4, 4, 4, 4, 5, 5, 6, 9]));
         }
         for _ in 0..random.between(5, 40) {
-            draft.grow(random, &[1, 1, 2, 6, 7, 7, 8, 8, 9]);
+            draft.grow(random, &[1, 1, 2, 6, 7, 7, 8, 8, 9, 10]);
         }
     }
     draft.script.truncate(wanted);
     if random.once_in(2) {
         let place = random.between(wanted - 20, wanted - 1);
-        draft.script[place] = random.pick(&[[0; 4], [6, 65535, 0, 0], [10, 1, 0, 0], [9, 1, 1, 2]]);
+        draft.script[place] = random.pick(&[[0; 4], [6, 65535, 0, 0], [11, 1, 0, 0], [9, 1, 1, 2]]);
     }
     draft.request()
 }

@@ -69,7 +69,7 @@ fn spoil_field(random: &mut Random, plant: &mut Plant, field: usize) {
     let (inputs, past, g) = (plant.network.inputs, plant.network.nodes(), plant.g());
     let any = random.below(past);
     match field {
-        0 => plant.step.rule = random.pick(&[0, 10, 11, 255, 256 + plant.step.rule, 65535]),
+        0 => plant.step.rule = random.pick(&[0, 11, 12, 255, 256 + plant.step.rule, 65535]),
         1 => plant.step.gate = random.pick(&[0, 1, inputs, past, past + 1, any, 65535]) as u16,
         2 => plant.step.a = random.pick(&[0, 1, 2, 3, inputs, g - 1, g, g + 1, past, any, 65535]) as u16,
         _ => plant.step.b = random.pick(&[1, 2, 256, 65535]),
@@ -164,11 +164,13 @@ pub fn kinds() -> Vec<Kind> {
         kind("rule 6 accepted", 5, rule(accepted, 6)),
         kind("rule 7 accepted", 5, rule(accepted, 7)),
         kind("rule 8 accepted", 2, rule(accepted, 8)),
-        kind("rule 2 near its form", 12, rule(near_miss, 2)),
+        kind("rule 10 accepted", 5, rule(accepted, 10)),
+        kind("rule 2 near its form", 8, rule(near_miss, 2)),
         kind("rule 3 near its form", 10, rule(near_miss, 3)),
         kind("rule 4 near its form", 8, rule(near_miss, 4)),
         kind("rule 5 near its form", 18, rule(near_miss, 5)),
         kind("rule 7 near its form", 8, rule(near_miss, 7)),
+        kind("rule 10 near its form", 8, rule(near_miss, 10)),
         kind("rule 1 and its a", 2, exchange_a),
         kind("rule 7 and its a", 5, share_a),
         kind("gate field at the border", 14, gate_border),
