@@ -1,12 +1,15 @@
-//! What a run met: requests, accepted ones, rules, refusals with their edges, and RM3 patterns.
+//! What a run met: requests, accepted ones, rules, refusals with their edges, first two edges, and RM3 patterns.
 
 use crate::answer::Answer;
 use crate::request::{Request, CALLS};
 use crate::rm3::class;
-use crate::step::{Step, LAST_RULE};
+use crate::step::{FirstTwo, Step, LAST_RULE};
 use crate::table::{records, Refusal};
 
 const RULES: usize = LAST_RULE as usize;
+
+/// The rules that look at the first two edges of a gate.
+const BY_FIRST_TWO: [u16; 2] = [2, 10];
 
 #[derive(Default)]
 pub struct Counts {
@@ -19,6 +22,8 @@ pub struct Counts {
     rules: [[usize; RULES + 1]; 9],
     /// Steps that were refused, single ones and those that stopped a script, by rule and refusal.
     refused_steps: [[usize; 13]; RULES + 1],
+    /// Single steps of rule 2 and of rule 10 that came to look at their gate, by its first two edges.
+    first_two: [[usize; 3]; 2],
     patterns: [usize; 27],
     longest: u32,
 }
@@ -69,10 +74,19 @@ impl Counts {
             self.edges[operation][edge as usize] += 1;
         }
         match request {
-            Request::Step(_, step) => match answer.refusal {
-                Some(refusal) => self.refused_steps[rule_of(*step)][refusal.number as usize] += 1,
-                None => self.rules[operation][rule_of(*step)] += 1,
-            },
+            Request::Step(table, step) => {
+                match answer.refusal {
+                    Some(refusal) => self.refused_steps[rule_of(*step)][refusal.number as usize] += 1,
+                    None => self.rules[operation][rule_of(*step)] += 1,
+                }
+                let asked = BY_FIRST_TWO.iter().position(|&rule| rule == step.rule);
+                let gate = table.network().ok().and_then(|network| network.gate(usize::from(step.gate)));
+                if let (Some(asked), Some(gate), None | Some(9)) =
+                    (asked, gate, answer.refusal.map(|refusal| refusal.number))
+                {
+                    self.first_two[asked][FirstTwo::of(gate) as usize] += 1;
+                }
+            }
             Request::Script(_, script) => {
                 let taken = answer.numbers[0];
                 self.longest = self.longest.max(taken);
@@ -111,6 +125,9 @@ impl Counts {
                 let never = possible_of_rule(rule).iter().filter(|&&number| self.refused_steps[rule][number] == 0);
                 lines.extend(never.map(|number| format!("never met: refusal {number} of rule {rule}")));
             }
+            if operation == 4 && self.first_two.as_flattened().contains(&0) {
+                lines.push("never met: equal, opposite or other edges by rule 2 or 10".to_string());
+            }
             if operation == 6 && self.patterns.contains(&0) {
                 lines.push("never met: one of the 27 RM3 patterns".to_string());
             }
@@ -132,6 +149,11 @@ impl Counts {
                 let refused = |&number: &usize| format!(", {} refused {number}", self.refused_steps[rule][number]);
                 let refused: String = possible_of_rule(rule).iter().map(refused).collect();
                 format!("rule {rule}: {single} single steps and {scripted} script steps accepted{refused}")
+            }));
+        }
+        if asked.contains(&4) {
+            lines.extend(BY_FIRST_TWO.iter().zip(self.first_two).map(|(rule, [equal, opposite, neither])| {
+                format!("first two edges by a single step of rule {rule}: {equal} equal, {opposite} opposite, {neither} neither")
             }));
         }
         for number in (1..=12).filter(|number| asked.iter().any(|&operation| possible(operation).contains(number))) {

@@ -4,6 +4,7 @@ mod assignments;
 mod damage;
 mod deck;
 mod edges;
+mod first_two;
 pub mod networks;
 mod plant;
 mod readings;
@@ -25,7 +26,7 @@ use deck::{kind, Kind};
 fn kinds(operation: u8) -> Vec<Kind> {
     let mut kinds = match operation {
         2 => assignments::kinds(Request::Evaluate),
-        4 => [steps::kinds(), voters::kinds()].into_iter().flatten().collect(),
+        4 => [steps::kinds(), first_two::kinds(), voters::kinds()].into_iter().flatten().collect(),
         5 => scripts::kinds(),
         6 => translations::kinds(),
         7 => readings::evaluate_kinds(),
