@@ -2,7 +2,7 @@
 
 use crate::request::Request;
 use crate::rm3::translate;
-use crate::script;
+use crate::script::{self, Progress};
 use crate::step;
 use crate::table::{Network, Refusal};
 use crate::value::{depth, evaluate, size};
@@ -34,6 +34,11 @@ impl Answer {
         Answer { refusal: result.err(), numbers, bytes }
     }
 
+    /// A script's answer, which has its numbers also where it is refused.
+    fn of_script(progress: Progress, bytes: Vec<u8>) -> Answer {
+        Answer { refusal: progress.refusal, numbers: vec![progress.taken, progress.used], bytes }
+    }
+
     pub fn bytes(&self) -> Vec<u8> {
         let refusal = self.refusal.unwrap_or(Refusal::plain(0));
         let head = [refusal.number, refusal.record, refusal.edge];
@@ -63,9 +68,11 @@ pub fn answer(request: &Request) -> Answer {
         }
         Request::Script(table, script) => {
             let mut buffer = table.buffer.clone();
-            let progress = script::run(&mut buffer, table.used, script);
-            let numbers = vec![progress.taken, progress.used];
-            Answer { refusal: progress.refusal, numbers, bytes: buffer }
+            Answer::of_script(script::run(&mut buffer, table.used, script), buffer)
+        }
+        Request::Stored(stored) => {
+            let mut buffer = stored.table.buffer.clone();
+            Answer::of_script(stored.run(&mut buffer), buffer)
         }
         Request::Rm3(table, out) => {
             let mut out = out.clone();

@@ -1,9 +1,10 @@
-//! What a run met: requests, accepted ones, rules, refusals with their edges, first two edges, and RM3 patterns.
+//! What a run met: requests, accepted ones, rules, refusals with their edges, first two edges, stored scripts, RM3 patterns.
 
 use crate::answer::Answer;
 use crate::request::{Request, CALLS};
 use crate::rm3::class;
 use crate::step::{FirstTwo, Step, LAST_RULE};
+use crate::stored_counts::StoredCounts;
 use crate::table::{records, Refusal};
 
 const RULES: usize = LAST_RULE as usize;
@@ -24,12 +25,13 @@ pub struct Counts {
     refused_steps: [[usize; 13]; RULES + 1],
     /// Single steps of rule 2 and of rule 10 that came to look at their gate, by its first two edges.
     first_two: [[usize; 3]; 2],
+    stored: StoredCounts,
     patterns: [usize; 27],
     longest: u32,
 }
 
 /// The refusals that an operation can meet.
-fn possible(operation: u8) -> &'static [usize] {
+pub fn possible(operation: u8) -> &'static [usize] {
     match operation {
         2 | 7 => &[1, 2, 3, 4, 5, 6],
         4 => &[1, 2, 3, 4, 5, 7, 8, 9, 10, 11],
@@ -87,15 +89,10 @@ impl Counts {
                     self.first_two[asked][FirstTwo::of(gate) as usize] += 1;
                 }
             }
-            Request::Script(_, script) => {
-                let taken = answer.numbers[0];
-                self.longest = self.longest.max(taken);
-                let steps: Vec<Step> = records(script).into_iter().map(Step::of).collect();
-                let (taken, left) = steps.split_at(taken as usize);
-                taken.iter().for_each(|&step| self.rules[operation][rule_of(step)] += 1);
-                if let (Some(refusal), Some(&step)) = (answer.refusal, left.first()) {
-                    self.refused_steps[rule_of(step)][refusal.number as usize] += 1;
-                }
+            Request::Script(_, script) => self.note_script(script, answer),
+            Request::Stored(stored) => {
+                self.note_script(&stored.converted, answer);
+                self.stored.note(stored, answer);
             }
             Request::Rm3(table, _) if answer.refusal.is_none() => {
                 for gate in table.network().iter().flat_map(|network| &network.gates) {
@@ -104,6 +101,17 @@ impl Counts {
                 }
             }
             _ => {}
+        }
+    }
+
+    fn note_script(&mut self, script: &[u8], answer: &Answer) {
+        let taken = answer.numbers[0];
+        self.longest = self.longest.max(taken);
+        let steps: Vec<Step> = records(script).into_iter().map(Step::of).collect();
+        let (taken, left) = steps.split_at(taken as usize);
+        taken.iter().for_each(|&step| self.rules[5][rule_of(step)] += 1);
+        if let (Some(refusal), Some(&step)) = (answer.refusal, left.first()) {
+            self.refused_steps[rule_of(step)][refusal.number as usize] += 1;
         }
     }
 
@@ -127,6 +135,9 @@ impl Counts {
             }
             if operation == 4 && self.first_two.as_flattened().contains(&0) {
                 lines.push("never met: equal, opposite or other edges by rule 2 or 10".to_string());
+            }
+            if operation == 5 {
+                lines.extend(self.stored.never_met());
             }
             if operation == 6 && self.patterns.contains(&0) {
                 lines.push("never met: one of the 27 RM3 patterns".to_string());
@@ -164,6 +175,7 @@ impl Counts {
         lines.push(format!("bad edge: first {} times, second {}, third {}", edges[0], edges[1], edges[2]));
         if asked.contains(&5) {
             lines.push(format!("longest script: {} steps taken", self.longest));
+            lines.extend(self.stored.report());
         }
         if asked.contains(&6) {
             let met = self.patterns.iter().filter(|&&count| count > 0).count();

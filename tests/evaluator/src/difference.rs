@@ -22,6 +22,9 @@ pub fn describe(request: &Request) -> String {
     for (name, bytes) in request.parts() {
         text += &format!("  {name}: {}\n", hex(&bytes));
     }
+    if let Request::Stored(stored) = request {
+        text += &format!("  stored script: {}\n", hex(&stored.script));
+    }
     text
 }
 

@@ -4,6 +4,7 @@
 use crate::answer::{answer, Answer};
 use crate::cases::Dealer;
 use crate::request::Request;
+use crate::stored::Stored;
 use crate::table::{census, records, Edge, Record, Refusal};
 use crate::tests::against;
 use std::cmp::Ordering;
@@ -17,6 +18,7 @@ fn records_of(request: &Request) -> Vec<Record> {
         | Request::Report(table)
         | Request::Step(table, _)
         | Request::Script(table, _)
+        | Request::Stored(Stored { table, .. })
         | Request::Rm3(table, _) => records(&table.buffer[..table.buffer.len().min(table.used as usize)]),
         Request::ReadingEvaluate(reading, _) | Request::ReadingReport(reading) => records(&reading.records),
     }

@@ -69,9 +69,8 @@ fn marks(table: &Table, network: &Network, step: Step) -> Vec<String> {
     let [first, second, _] = gate.map(Edge::number);
     let taken = first_two == if rule == 2 { FirstTwo::Equal } else { FirstTwo::Opposite };
     let near = [
-        ("neither, next number", first_two == FirstTwo::Neither && first.abs_diff(second) == 1),
-        ("neither, same low byte", first != second && first % 256 == second % 256),
-        ("neither, opposite low byte", first ^ second > 1 && (first ^ second) % 256 == 1),
+        ("next number", first_two == FirstTwo::Neither && first.abs_diff(second) == 1),
+        ("low bytes", first_two == FirstTwo::Neither && (first ^ second) % 256 == u16::from(rule == 10)),
         ("full", network.gates.len() == MOST_GATES && table.buffer.len() == network.used()),
     ];
     marks.extend(near.iter().filter(|mark| mark.1).map(|mark| format!("{rule} {}", mark.0)));
@@ -162,9 +161,8 @@ fn every_way_of_the_first_two_edges_is_dealt() {
     let ways = ["Equal", "Opposite", "Neither"].iter().flat_map(|two| sorts.map(|sort| format!("{two} {sort}")));
     let thirds = "(x,x,x) (x,x,!x) (x,x,y) (x,!x,x) (x,!x,!x) (x,!x,y) (x,y,x) (x,y,!x) (x,y,y) (x,y,!y) (x,y,z)";
     let more = [
-        "neither, next number",
-        "neither, same low byte",
-        "neither, opposite low byte",
+        "next number",
+        "low bytes",
         "full",
         "unread",
         "read by a gate",

@@ -19,6 +19,10 @@ mod script;
 #[cfg(test)]
 mod sheet;
 mod step;
+mod stored;
+mod stored_counts;
+#[cfg(test)]
+mod stored_tests;
 mod table;
 #[cfg(test)]
 mod tests;
@@ -41,12 +45,15 @@ Starts PROGRAM (majpipe, perhaps behind an emulator) and compares N of its repli
   --ops LIST   the operations to ask, 1 to 8 (default all)
   --save FILE  where to write the bytes of the request that met a difference, for PROGRAM's standard input
 
-How the count is spread: of 20 requests operations 1 to 8 get 3, 2, 1, 7, 2, 3, 1 and 1 (those listed keep their
+How the count is spread: of 23 requests operations 1 to 8 get 3, 2, 1, 8, 4, 3, 1 and 1 (those listed keep their
 shares). Each operation deals its kinds of cases from a shuffled deck, so that every kind comes once before one
 comes again beyond its weight, and a kind goes through its variants in turn. Every 100th request of an operation is a
 rare one: a part of 65,536 bytes, or for operation 5 every other time a script of 5,000 to 8,192 steps.
+More than half the scripts are stored ones, of the time before rule 10: PROGRAM gets them converted, and must do with
+them what they did then.
 With 2000 requests or more a run fails also when a refusal or a rule of its operations, one of the edges that refusal 5
-carries, or a refusal of a rule by operation 4 or 5, was never met.
+carries, a refusal of a rule by operation 4 or 5, equal, opposite or other edges by rule 2 or 10, or a stored script of
+each sort was never met.
 The exit status is 0 where all replies are as expected, 1 where not, and 2 for bad usage.
 ";
 

@@ -2,6 +2,7 @@
 
 use crate::reading::Reading;
 use crate::step::Step;
+use crate::stored::Stored;
 use crate::table::{read, Network, Refusal};
 
 /// A lent buffer and the length of it that is said to be used.
@@ -24,6 +25,8 @@ pub enum Request {
     Report(Table),
     Step(Table, Step),
     Script(Table, Vec<u8>),
+    /// A stored script: it is sent as it was converted, and must do what it did before that.
+    Stored(Stored),
     Rm3(Table, Vec<u8>),
     ReadingEvaluate(Reading, u32),
     ReadingReport(Reading),
@@ -60,7 +63,7 @@ impl Request {
             Request::Evaluate(..) => 2,
             Request::Report(..) => 3,
             Request::Step(..) => 4,
-            Request::Script(..) => 5,
+            Request::Script(..) | Request::Stored(_) => 5,
             Request::Rm3(..) => 6,
             Request::ReadingEvaluate(..) => 7,
             Request::ReadingReport(..) => 8,
@@ -76,6 +79,7 @@ impl Request {
             | Request::Evaluate(table, _)
             | Request::Step(table, _)
             | Request::Script(table, _)
+            | Request::Stored(Stored { table, .. })
             | Request::Rm3(table, _) => {
                 parts.push(number("used", table.used));
                 parts.extend(lent("table", &table.buffer));
@@ -96,6 +100,7 @@ impl Request {
                 parts.extend(fields.map(|(name, field)| (name, field.to_le_bytes().to_vec())));
             }
             Request::Script(_, script) => parts.extend(lent("script", script)),
+            Request::Stored(stored) => parts.extend(lent("script", &stored.converted)),
             Request::Rm3(_, out) => parts.extend(lent("out", out)),
             Request::Check(_) | Request::Report(_) | Request::ReadingReport(_) => {}
         }

@@ -75,7 +75,7 @@ impl Hand {
 }
 
 /// The share of operations 1 to 8 in a run.
-const SHARES: [usize; 8] = [3, 2, 1, 7, 2, 3, 1, 1];
+const SHARES: [usize; 8] = [3, 2, 1, 8, 4, 3, 1, 1];
 
 pub struct Dealer {
     random: Random,

@@ -51,24 +51,25 @@ impl Shape {
     }
 }
 
-/// An edge to another of the nodes: one whose number is next to the first's or, among many nodes, has the low byte of the first or
-/// of its opposite; where there is none, and at times, any.
-fn other(random: &mut Random, first: Edge, nodes: usize) -> Edge {
+/// An edge to another of the nodes, which the rule may take for what it asks for: among many nodes one whose number has the same low
+/// byte, else one whose number is next to the first's; where there is none, and at times, any.
+fn other(random: &mut Random, rule: u16, first: Edge, nodes: usize) -> Edge {
     let any = Edge { node: (first.node + random.between(1, nodes - 1)) % nodes, inverted: random.once_in(2) };
     let number = first.number();
     let next = if first.inverted { number + 1 } else { number.wrapping_sub(1) };
-    let low = [number ^ 256, number ^ 257];
-    let near = if nodes > 128 { random.pick(&low) } else { random.pick(&[next, any.number()]) };
-    match Edge::of(near).node < nodes {
-        true => Edge::of(near),
+    let far = if rule == 2 { number ^ 256 } else { number ^ 257 };
+    let near = Edge::of(if nodes > 128 { far } else { random.pick(&[next, any.number()]) });
+    match near.node < nodes {
+        true => near,
         false => any,
     }
 }
 
-/// A plant of the shape, among a few gates or, at times, where the first two edges name other nodes, among more than a hundred.
+/// A plant of the shape, among a few gates or, at times, where the first two edges name other nodes, among more than a hundred;
+/// at times read by nobody.
 pub fn planted(random: &mut Random, shape: Shape) -> Plant {
     let mut plant = Plant::begun(random, shape.rule, 5);
-    let many = shape.first_two == FirstTwo::Neither && random.once_in(3);
+    let many = shape.first_two == FirstTwo::Neither && random.once_in(2);
     networks::fill(random, &mut plant.network, if many { 130 } else { 1 });
     let (inputs, nodes) = (plant.network.inputs, plant.network.nodes());
     let node = match shape.named {
@@ -80,7 +81,7 @@ pub fn planted(random: &mut Random, shape: Shape) -> Plant {
     let second = match shape.first_two {
         FirstTwo::Equal => first,
         FirstTwo::Opposite => first.inverted_if(true),
-        FirstTwo::Neither => other(random, first, nodes),
+        FirstTwo::Neither => other(random, shape.rule, first, nodes),
     };
     let (constant, any) = (Edge { node: 0, inverted: random.once_in(2) }, plant.edge(random));
     let [not_first, not_second] = [first, second].map(|edge| edge.inverted_if(true));
@@ -88,6 +89,9 @@ pub fn planted(random: &mut Random, shape: Shape) -> Plant {
     plant.add([first, second, third]);
     let readers = random.below(4);
     plant.finish(random, readers);
+    if random.once_in(10) {
+        plant.leave_unread();
+    }
     plant
 }
 
@@ -140,7 +144,7 @@ fn full_table(random: &mut Random, turn: usize) -> Request {
 pub fn kinds() -> Vec<Kind> {
     vec![
         kind("rules 2 and 10 on two edges", 36, two_edges),
-        kind("rules 2 and 10 and their fields", 8, fields),
+        kind("rules 2 and 10 and their fields", 9, fields),
         kind("rules 2 and 10 under another number", 6, other_number),
         kind("rules 2 and 10 on a full table", 3, full_table),
     ]

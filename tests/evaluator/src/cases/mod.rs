@@ -10,6 +10,7 @@ mod plant;
 mod readings;
 mod scripts;
 mod steps;
+mod stored;
 mod tables;
 mod translations;
 mod voters;
@@ -27,7 +28,7 @@ fn kinds(operation: u8) -> Vec<Kind> {
     let mut kinds = match operation {
         2 => assignments::kinds(Request::Evaluate),
         4 => [steps::kinds(), first_two::kinds(), voters::kinds()].into_iter().flatten().collect(),
-        5 => scripts::kinds(),
+        5 => [scripts::kinds(), stored::kinds()].into_iter().flatten().collect(),
         6 => translations::kinds(),
         7 => readings::evaluate_kinds(),
         8 => readings::report_kinds(),
@@ -57,7 +58,10 @@ fn around(operation: u8, random: &mut Random, table: Table) -> Request {
                 let more = random.between(1, 7);
                 script.extend(random.bytes(more));
             }
-            Request::Script(table, script)
+            match random.once_in(2) {
+                true => stored::request(table, script),
+                false => Request::Script(table, script),
+            }
         }
         6 => {
             let length = random.pick(&[0, 8, 100, 400, 3000]);

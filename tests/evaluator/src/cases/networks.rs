@@ -53,6 +53,23 @@ pub fn any(random: &mut Random) -> Network {
     sized(random, inputs, gates, outputs)
 }
 
+/// A chain in which most gates have equal or opposite first edges, or get them when an earlier gate is redirected.
+pub fn paired(random: &mut Random, inputs: usize, gates: usize, outputs: usize) -> Network {
+    let mut network = chain(random, inputs, gates, outputs);
+    for at in 0..gates {
+        let inverted = [0; 2].map(|_| random.once_in(2));
+        let earlier = random.below(at.max(1));
+        let [first, second] = match random.below(4) {
+            0 => continue,
+            1 if at > 0 => [Edge::plain(inputs + 1 + earlier), network.gates[earlier][random.pick(&[0, 2])]],
+            _ => [network.gates[at][0]; 2],
+        };
+        network.gates[at][0] = first.inverted_if(inverted[0]);
+        network.gates[at][1] = second.inverted_if(inverted[1]);
+    }
+    network
+}
+
 /// A network in which each gate reads the one before it, in one place or in changing places, and the first output
 /// reads the last: all are reached.
 pub fn chain(random: &mut Random, inputs: usize, gates: usize, outputs: usize) -> Network {

@@ -132,6 +132,13 @@ impl Plant {
         }
     }
 
+    /// Has those who read g read the constant instead.
+    pub fn leave_unread(&mut self) {
+        let g = self.g();
+        let edges = self.network.gates.iter_mut().flatten().chain(&mut self.network.outputs);
+        edges.filter(|edge| edge.node == g).for_each(|edge| edge.node = 0);
+    }
+
     pub fn request(self, random: &mut Random, behind: usize) -> Request {
         Request::Step(lent(random, &self.network, behind), self.step)
     }

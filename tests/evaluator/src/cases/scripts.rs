@@ -9,19 +9,19 @@ use crate::step::{apply, plan, Step};
 use crate::table::{record_bytes, Network, MOST_GATES};
 
 /// A script in the making: the table it starts from, and the network that its steps have made so far.
-struct Draft {
-    table: Table,
-    network: Network,
-    script: Vec<[u16; 4]>,
+pub struct Draft {
+    pub table: Table,
+    pub network: Network,
+    pub script: Vec<[u16; 4]>,
 }
 
 impl Draft {
-    fn new(random: &mut Random, network: Network, behind: usize) -> Draft {
+    pub fn new(random: &mut Random, network: Network, behind: usize) -> Draft {
         Draft { table: lent(random, &network, behind), network, script: Vec::new() }
     }
 
     /// A step of this rule that finds its form, looked for from a random gate on.
-    fn fitting(&self, random: &mut Random, rule: u16) -> Option<Step> {
+    pub fn fitting(&self, random: &mut Random, rule: u16) -> Option<Step> {
         let gates = self.network.gates.len();
         if rule == 8 || gates == 0 {
             return Some(Step { rule: 8, gate: 0, a: 0, b: 0 });
@@ -61,7 +61,7 @@ impl Draft {
     }
 
     /// Adds a step of one of the rules where it is accepted, and says whether.
-    fn grow(&mut self, random: &mut Random, rules: &[u16]) -> bool {
+    pub fn grow(&mut self, random: &mut Random, rules: &[u16]) -> bool {
         let rule = random.pick(rules);
         let Some(step) = self.fitting(random, rule) else {
             return false;
@@ -82,7 +82,7 @@ impl Draft {
     }
 
     /// Adds a step that is refused 7, 8 or 9 here, or that happens to be accepted.
-    fn refuse(&mut self, random: &mut Random, turn: usize) {
+    pub fn refuse(&mut self, random: &mut Random, turn: usize) {
         let gate = (self.network.nodes() - 1) as u16;
         let bad = match turn % 9 {
             0 => [0, gate, 1, 0],
@@ -102,7 +102,7 @@ impl Draft {
         self.script.push(bad);
     }
 
-    fn request(self) -> Request {
+    pub fn request(self) -> Request {
         Request::Script(self.table, record_bytes(&self.script))
     }
 }
@@ -143,8 +143,24 @@ fn stopped(random: &mut Random, turn: usize, before: usize, after: usize) -> Req
     draft.request()
 }
 
+/// Stopped by rule 2 at a gate that rule 10 takes, or by rule 10 at one that rule 2 takes.
+fn wrong_edges(random: &mut Random, turn: usize) -> Request {
+    let (gates, behind) = (random.between(2, 12), random.below(60));
+    let network = networks::paired(random, 4, gates, 3);
+    let mut draft = Draft::new(random, network, behind);
+    for _ in 0..random.below(8) {
+        draft.grow(random, &[1, 2, 3, 6, 10]);
+    }
+    let (fitting, asked) = [(10, 2), (2, 10)][turn % 2];
+    if let Some(step) = draft.fitting(random, fitting) {
+        draft.script.push(Step { rule: asked, ..step }.fields());
+    }
+    draft.grow_some(random, 4);
+    draft.request()
+}
+
 /// In little room: rule 8 makes room that rules 3, 4, 5 and 9 take again.
-fn sweep_and_grow(random: &mut Random, _turn: usize) -> Request {
+pub fn sweep_and_grow(random: &mut Random, _turn: usize) -> Request {
     let (gates, behind) = (random.between(3, 12), random.pick(&[8, 16, 24, 31, 40]));
     let network = networks::chain(random, 4, gates, 1);
     let mut draft = Draft::new(random, network, behind);
@@ -157,7 +173,7 @@ fn sweep_and_grow(random: &mut Random, _turn: usize) -> Request {
 }
 
 /// Rule 3 again and again on one gate, which keeps the form, until it is refused 10 or 11.
-fn grow_until_refused(random: &mut Random, turn: usize) -> Request {
+pub fn grow_until_refused(random: &mut Random, turn: usize) -> Request {
     let (gates, behind, steps) = match turn % 3 {
         0 => (Some(MOST_GATES - turn / 3 % 4), random.pick(&[8, 24, 64]), 8),
         _ => (None, random.below(64), 12),
@@ -200,7 +216,7 @@ fn voters(random: &mut Random, _turn: usize) -> Request {
 }
 
 /// Grows to 1,024 gates, sweeps, mixes and grows again, until the script has as many steps as wanted.
-fn long(random: &mut Random, wanted: usize, most_gates: usize) -> Request {
+pub fn long(random: &mut Random, wanted: usize, most_gates: usize) -> Request {
     let network = networks::chain(random, 8, 60, 32);
     let behind = 8 * (most_gates - 60) + random.below(20);
     let mut draft = Draft::new(random, network, behind);
@@ -229,6 +245,7 @@ pub fn kinds() -> Vec<Kind> {
         kind("script stopped at the first step", 4, |random, turn| stopped(random, turn, 0, 3)),
         kind("script stopped in the middle", 6, |random, turn| stopped(random, turn, 8, 5)),
         kind("script stopped at the last step", 4, |random, turn| stopped(random, turn, 6, 0)),
+        kind("script stopped by the first two edges", 6, wrong_edges),
         kind("script that sweeps and grows again", 8, sweep_and_grow),
         kind("script that grows until refused", 6, grow_until_refused),
         kind("script of one voter until refused", 4, vote_until_refused),
@@ -236,10 +253,6 @@ pub fn kinds() -> Vec<Kind> {
         kind("script of hundreds of steps", 1, |random, _| {
             let (wanted, most_gates) = (random.between(100, 700), random.between(100, 300));
             long(random, wanted, most_gates)
-        }),
-        kind("script of thousands of steps", 0, |random, _| {
-            let wanted = random.between(5000, 8192);
-            long(random, wanted, MOST_GATES)
         }),
     ]
 }

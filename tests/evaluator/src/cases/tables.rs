@@ -20,7 +20,7 @@ pub const KINDS: &[(&str, usize, Make)] = &[
     ("kind out of order", 2, |random, turn| damaged(random, turn, disorder)),
     ("field not zero", 3, |random, turn| damaged(random, turn, field_not_zero)),
     ("edge at the border", 5, |random, turn| damaged(random, turn, edge_at_border)),
-    ("bad edges of a gate", 6, |random, turn| bad_edges(random, turn, edges::gate)),
+    ("bad edges of a gate", 7, |random, turn| bad_edges(random, turn, edges::gate)),
     ("bad edge of an output", 4, |random, turn| bad_edges(random, turn, edges::output)),
     ("bad edges of several records", 4, |random, turn| bad_edges(random, turn, edges::several)),
     ("several faults", 7, several_faults),
