@@ -61,6 +61,7 @@ static const struct row ROWS[] = {
     { "step 7 share", STEP, 7 },
     { "step 8 sweep", STEP, 8 },
     { "step 9 voter", STEP, 9 },
+    { "step 10 opposite", STEP, 10 },
     { "script of 64 steps", SCRIPT, 0 },
     { "translate", TRANSLATE, 0 },
 };
@@ -189,11 +190,15 @@ static void plant(uint8_t *table, unsigned node, unsigned rule)
         put_record(table, h - 1, 2, 2 * a, 2 * b, edge_of(table, h, 3));
         z = 2 * h;
         break;
+    case 10:
+        y = x ^ 1;
+        break;
     }
     put_record(table, i, 2, x, y, z);
 }
 
-/* Steps that are accepted one after another: any of rules 1 to 8, at a gate from a random one on that has its form. */
+/* Steps that are accepted one after another: any of rules 1 to 8, at a gate from a random one on that has its form. Where rule 2 comes
+   to opposite edges first, the step is one of rule 10. */
 static void choose_steps(struct input *in)
 {
     static uint8_t table[MOST_BUFFER];
@@ -209,6 +214,8 @@ static void choose_steps(struct input *in)
                 rule = 6;
             unsigned gate = rule == 8 ? 0 : in->inputs + 1 + (from + tried) % gates;
             unsigned a = rule == 1 ? 1 + below(2) : rule == 7 ? gate - 1 : 0;
+            if (rule == 2 && edge_of(table, gate, 1) == (edge_of(table, gate, 2) ^ 1))
+                rule = 10;
             struct pulpgarnet_stepped r =
                 plain_step(table, in->length, used, (uint16_t)rule, (uint16_t)gate, (uint16_t)a, 0);
             if (r.refusal == 0) {
