@@ -51,7 +51,7 @@ int main(void)
     printf("inputs %zu gates %zu outputs %zu\n", checked.inputs, checked.gates, checked.outputs);
     show(used);
 
-    /* Gate 4 has no two edges that are equal or opposite, so rule 2 is refused, and nothing changes. */
+    /* The first two edges of gate 4 are not equal, so rule 2 is refused, and nothing changes. */
     struct pulpgarnet_stepped stepped = pulpgarnet_step(table, sizeof table, used, 2, 4, 0, 0);
     printf("rule 2 on gate 4: refused %u at %zu %u\n", stepped.refusal, stepped.record, stepped.edge);
 
