@@ -1,12 +1,14 @@
 -- A converted script runs now as the script ran before: step by step, since converting renumbers steps and changes nothing else of them.
-use Prim.Native.Nat.{ℕ, zero, suc, _+_, _*_, _/_, _≤_, _<_}
+use Prim.Native.Nat.{ℕ, zero, suc, _+_, _*_, _/_, _%_, _≤_, _<_}
 use mathlib.Core.Path.{_≡_, refl, sym, ap, _∙_}
-use mathlib.Core.Bool.{Bool}
+use mathlib.Core.Bool.{Bool, true, false}
 use mathlib.Core.List.{List, _∷_}
 use native.Mathlib.Omega.{arith}
+use lib.Dec.{eqb}
 use lib.ListN.{length}
 use Rattle.refusals.specs.Why.{Why}
 use Rattle.refusals.specs.Reply.{Reply, accepted, refused}
+use Rattle.majority.specs.If.{if_then_else_}
 use Rattle.majority.specs.declared.Counts.{Counts}
 use Rattle.rules.specs.declared.Step.{Step}
 use Rattle.tables.specs.Field.{putField}
@@ -15,7 +17,7 @@ use Rattle.tables.specs.Calls.{checkOf}
 use Rattle.tables.proofs.PutField.{field-length}
 use Rattle.rewriting.specs.Calls.{stepOf, stepBytes}
 use Rattle.rewriting.specs.Script.{Run, stopped, stepAt, stepsFrom, stepsOf, byReply, runBy, afterCheck, scriptBy}
-use Rattle.demands.specs.Converted.{stepOfBefore, stepBytesBefore, meetsOpposite, renumbered, convertedFrom, converted, Conversion}
+use Rattle.demands.specs.Converted.{stepOfBefore, stepBytesBefore, meetsOpposite, renumbered, convertedFrom, Conversion}
 use Rattle.demands.proofs.Renumbered.{step-stays, renumbered-keeps, renumbered-step}
 use Rattle.demands.proofs.ConvertedStep.{convertedStep, reply-converted, bytes-converted, reply-refused}
 
@@ -119,18 +121,24 @@ run-converted (suc k) i taken xs used script fits none =
     run-converted k (suc i) (taken + 1) (ys i xs used script) next (onward i xs used script) (rw (onward-length i xs used script) (omega arith))
     (onward-without i xs used script none))
 
+-- every whole step of a script
+abbrev walked : List ℕ → ℕ → List ℕ → List ℕ
+walked xs used script = convertedFrom 0 (length script / 8) xs used script
+
 pub conversion : Conversion
 unfolding Conversion scriptBy
-conversion xs used script none = go (checkOf xs used)
+conversion xs used script none = go (checkOf xs used) (eqb (length script % 8) 0) refl
   where
-    long : length (converted xs used script) ≡ length script
+    long : length (walked xs used script) ≡ length script
     long = converted-length (length script / 8) 0 xs used script
 
-    same : now 0 xs used (stepsOf (converted xs used script)) ≡ before 0 xs used (stepsOf script)
+    same : now 0 xs used (stepsOf (walked xs used script)) ≡ before 0 xs used (stepsOf script)
     same =
-        ap (λ (n : ℕ). now 0 xs used (stepsFrom (converted xs used script) 0 (n / 8))) long
+        ap (λ (n : ℕ). now 0 xs used (stepsFrom (walked xs used script) 0 (n / 8))) long
         ∙ run-converted (length script / 8) 0 0 xs used script (omega arith) (λ j h. none j)
 
-    go : (c : Reply Counts) → afterCheck stepOf stepBytes c xs used (converted xs used script) ≡ afterCheck stepOfBefore stepBytesBefore c xs used script
-    go (refused w) = refl
-    go (accepted c) = rw (same, long)
+    go : (c : Reply Counts) (even : Bool) → eqb (length script % 8) 0 ≡ even
+        → afterCheck stepOf stepBytes c xs used (if even then walked xs used script else script) ≡ afterCheck stepOfBefore stepBytesBefore c xs used script
+    go (refused w) even e = refl
+    go (accepted c) true e = rw (same, long)
+    go (accepted c) false e = rw e

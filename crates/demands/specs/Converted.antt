@@ -1,5 +1,5 @@
--- Stored scripts (SPEC 5.5): rule 2 once took opposite edges too, and no rule had the number 10. A script of that time is converted, and gives what it gave.
-use Prim.Native.Nat.{ℕ, zero, suc, _+_, _*_, _/_, _<_}
+-- Stored scripts (SPEC 5.7): rule 2 once took opposite edges too, and no rule had the number 10. A script of that time is converted, and gives what it gave.
+use Prim.Native.Nat.{ℕ, zero, suc, _+_, _*_, _/_, _%_, _<_}
 use mathlib.Core.Path.{_≡_}
 use mathlib.Core.Bool.{Bool, not, _&&_, _||_}
 use mathlib.Core.List.{List}
@@ -78,9 +78,9 @@ convertedFrom i (suc k) xs used script =
     (λ next. convertedFrom (suc i) k (stepBytesBefore xs used s) next (renumbered (meetsOpposite (tableOf xs (used / 8)) s) i script))
     (λ w. script)
 
--- a script converted for the table in the first `used` bytes of xs
+-- a script converted for the table in the first `used` bytes of xs; one whose length is no multiple of 8 took no step, and stays
 abbrev pub converted : List ℕ → ℕ → List ℕ → List ℕ
-converted xs used script = convertedFrom 0 (length script / 8) xs used script
+converted xs used script = if eqb (length script % 8) 0 then convertedFrom 0 (length script / 8) xs used script else script
 
 -- no step of the script is numbered 10
 abbrev pub Without10 : List ℕ → Type 0
