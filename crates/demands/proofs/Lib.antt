@@ -1,4 +1,4 @@
-pub mod OneStep  -- one step keeps what it must
+pub mod OneStep  -- one step keeps what it must, and sweep depth itself
 pub mod OneScript  -- one script does
 pub mod Demand3  -- so do scripts one after another
 pub mod Demand3Rm3  -- and the RM3 table of what they leave

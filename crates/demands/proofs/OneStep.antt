@@ -1,4 +1,4 @@
--- One step takes a buffer that holds an accepted table to another such buffer, and keeps what it must between the two tables.
+-- One step takes a buffer that holds an accepted table to another such buffer, and keeps what it must between the two tables; sweep keeps depth itself.
 use Prim.Native.Nat.{ℕ, _+_, _*_, _/_, _%_, _≤_}
 use mathlib.Core.Path.{_≡_, refl, sym, _∙_}
 use mathlib.Core.List.{List}
@@ -13,12 +13,13 @@ use Rattle.majority.specs.Check.{counts, checkRecords, count}
 use Rattle.majority.specs.declared.Record.{Record}
 use Rattle.majority.proofs.Accepted.{Accepted, acceptance, accepts}
 use Rattle.rules.proofs.Kept.{kept-same}
-use Rattle.rules.proofs.Steps.{step-kept, step-fits, step-accepted}
+use Rattle.rules.proofs.Steps.{step-kept, sweep-step-depth, step-fits, step-accepted}
 use Rattle.tables.specs.Bytes.{tableOf}
 use Rattle.tables.specs.Calls.{checkOf}
 use Rattle.tables.proofs.Encoded.{accepted-records}
 use Rattle.rewriting.specs.Calls.{holdingInstead, afterReply, stepTable, stepOf, stepBytes}
 use Rattle.rewriting.proofs.SoundAfterStep.{instead-length, instead-table}
+use Rattle.demands.specs.Demand3.{KeepsDepth, SweepKeepsDepth}
 
 -- from the buffer xs, whose table has m gates, to the buffer ys: ys holds an accepted table, and depth has risen by at most δ
 pub record Between (δ n m o : ℕ) (xs : List ℕ) (used : ℕ) (ys : List ℕ) (end : ℕ) : Type 0 where
@@ -64,25 +65,42 @@ module _ (xs : List ℕ) (used n m o : ℕ) (is : checkOf xs used ≡ accepted (
     unfolding stepBytes
     bytes-are = rw table-is
 
-    instead-between : (t : List Record) → outcome xs used n m s ≡ accepted t → Between (deepensBy s + votersBy s) n m o xs used (holdingInstead t used xs) (8 * length t)
-    instead-between t e =
-        let h : used ≤ length xs = accepted-records xs used _ is .1 in
-        let fits : 8 * length t ≤ length xs = step-fits (was .formed) _ _ t e in
-        record {
-          gates = count 2 t;
-          holds = instead-check t used xs h fits ∙ accepts n (count 2 t) o t (step-accepted was _ _ t e);
-          kept = rw (last-table t used xs) (step-kept (was .formed) _ _ t e);
-        }
+    -- a step that is accepted leaves a table
+    record Leaves (next : ℕ) : Type 0 where
+      table : List Record
+      made : outcome xs used n m s ≡ accepted table
+      holds : checkOf (stepBytes xs used s) next ≡ accepted (counts n (count 2 table) o)
+      there : tableOf (stepBytes xs used s) (next / 8) ≡ table
 
-    -- a step that is accepted
-    pub between-step : (next : ℕ) → stepOf xs used s ≡ accepted next → Between (deepensBy s + votersBy s) n m o xs used (stepBytes xs used s) next
-    between-step next e = go (outcome xs used n m s) refl
+    leaves : (next : ℕ) → stepOf xs used s ≡ accepted next → Leaves next
+    leaves next e = go (outcome xs used n m s) refl
       where
-        go : (reply : Reply (List Record)) → outcome xs used n m s ≡ reply → Between (deepensBy s + votersBy s) n m o xs used (stepBytes xs used s) next
+        go : (reply : Reply (List Record)) → outcome xs used n m s ≡ reply → Leaves next
         go (accepted t) is′ =
             let same : 8 * length t ≡ next = let p : accepted (8 * length t) ≡ accepted next = sym (reply-is ∙ rw is′) ∙ e in cc in
-            rw (bytes-are, is′, ← same) (instead-between t is′)
+            let h : used ≤ length xs = accepted-records xs used _ is .1 in
+            let fits : 8 * length t ≤ length xs = step-fits (was .formed) _ _ t is′ in
+            record {
+              table = t;
+              made = is′;
+              holds = rw (bytes-are, is′, ← same) (instead-check t used xs h fits ∙ accepts n (count 2 t) o t (step-accepted was _ _ t is′));
+              there = rw (bytes-are, is′, ← same) (last-table t used xs);
+            }
         go (refused w) is′ =
             let p : refused w ≡ accepted next = sym (reply-is ∙ rw is′) ∙ e in
             let z : _≡_ {A = ℕ} 0 1 = cc in
             absurd (omega arith)
+
+    pub between-step : (next : ℕ) → stepOf xs used s ≡ accepted next → Between (deepensBy s + votersBy s) n m o xs used (stepBytes xs used s) next
+    between-step next e =
+        let w = leaves next e in
+        record { gates = count 2 (w .table); holds = w .holds; kept = rw (w .there) (step-kept (was .formed) _ _ (w .table) (w .made)) }
+
+    sweep-between : (next : ℕ) → s .rule ≡ 8 → stepOf xs used s ≡ accepted next → KeepsDepth n m o (tableOf xs (used / 8)) (stepBytes xs used s) next
+    sweep-between next eight e =
+        let w = leaves next e in
+        record { gates = count 2 (w .table); holds = w .holds; same = rw (w .there) (sweep-step-depth (was .formed) _ _ (w .table) (w .made) eight) }
+
+pub sweep-keeps-depth : SweepKeepsDepth
+unfolding SweepKeepsDepth
+sweep-keeps-depth xs used s n m o next is eight e = sweep-between xs used n m o is s next eight e

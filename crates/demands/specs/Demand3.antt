@@ -15,6 +15,7 @@ use Rattle.translation.specs.Rm3.{WellFormed3, outputValue3, depth3}
 use Rattle.majority.specs.declared.Record.{Record}
 use Rattle.tables.specs.Bytes.{tableOf}
 use Rattle.tables.specs.Calls.{checkOf}
+use Rattle.rewriting.specs.Calls.{stepOf, stepBytes}
 use Rattle.rewriting.specs.Script.{Run, stepsOf, scriptRun}
 use Rattle.rm3.specs.Calls.{translateOf, translateBytes}
 
@@ -64,7 +65,7 @@ pub record Keeps (n m o : ℕ) (first : List Record) (after : After) : Type 0 wh
   -- each output has its first value under each assignment
   pub outputs : (a j : ℕ) → j < o → outputValue a n gates (tableAfter after) j ≡ outputValue a n m first j
   -- depth has risen by at most one for each step of rules 3, 4 and 5 taken, and, counted apart, by at most one for each voter step taken
-  pub deep : depth n gates (tableAfter after) ≤ depth n m first + after .deepened + after .voted
+  pub deep : depth n gates o (tableAfter after) ≤ depth n m o first + after .deepened + after .voted
 
 -- for every buffer, used length and scripts: where the first check accepts, all this is kept
 unfoldable pub Demand3 : Type 0
@@ -72,6 +73,21 @@ Demand3 =
     (xs : List ℕ) (used : ℕ) (scripts : List (List ℕ)) (n m o : ℕ)
     → checkOf xs used ≡ accepted (counts n m o)
     → Keeps n m o (tableOf xs (used / 8)) (runScripts xs used scripts)
+
+-- from a first table of n inputs, m gates and o outputs to the one in the first `used` of these bytes
+pub record KeepsDepth (n m o : ℕ) (first : List Record) (bytes : List ℕ) (used : ℕ) : Type 0 where
+  pub gates : ℕ
+  pub holds : checkOf bytes used ≡ accepted (counts n gates o)
+  pub same : depth n gates o (tableOf bytes (used / 8)) ≡ depth n m o first
+
+-- sweep keeps depth: for every buffer and used length that the check accepts, and every step of rule 8 that is taken there
+unfoldable pub SweepKeepsDepth : Type 0
+SweepKeepsDepth =
+    (xs : List ℕ) (used : ℕ) (s : Step) (n m o next : ℕ)
+    → checkOf xs used ≡ accepted (counts n m o)
+    → s .rule ≡ 8
+    → stepOf xs used s ≡ accepted next
+    → KeepsDepth n m o (tableOf xs (used / 8)) (stepBytes xs used s) next
 
 -- what `translate` then replies, where out is the buffer given for the RM3 table
 abbrev pub replyAfter : After → List ℕ → Reply ℕ
@@ -94,7 +110,7 @@ pub record KeepsRm3 (n m o : ℕ) (first : List Record) (after : After) (ts : Li
   -- at most three operations a gate plus one an output
   pub few : operations ≤ 3 * gates + o
   -- a depth of at most twice the table's plus one
-  pub deep : depth3 n operations ts ≤ 2 * depth n gates (tableAfter after) + 1
+  pub deep : depth3 n operations o ts ≤ 2 * depth n gates o (tableAfter after) + 1
 
 -- for every buffer, used length and scripts, and for every buffer out: where the first check accepts and `translate` replies the length l, all this is so of the bytes that it leaves
 unfoldable pub Demand3Rm3 : Type 0

@@ -1,6 +1,6 @@
 -- What a well-formed table gives: every record reads lower nodes of the table, and an output's record is worth what the output is.
 use Prim.Native.Nat.{ℕ, suc, _+_, _≤_, _<_}
-use mathlib.Core.Path.{_≡_, sym, ap, _∙_}
+use mathlib.Core.Path.{_≡_, ap, _∙_}
 use mathlib.Core.List.{List}
 use native.Mathlib.Omega.{arith}
 use native.Mathlib.Decide.{decLt}
@@ -8,7 +8,6 @@ use lib.ListN.{length}
 use Rattle.majority.specs.Edge.{nodeOf}
 use Rattle.majority.specs.Table.{recordAt, output, Below, WellFormed}
 use Rattle.majority.specs.Node.{Meaning, byKind, edgeWorth, recordWorth, worth}
-use Rattle.majority.specs.Value.{values, outputValue}
 use Rattle.majority.specs.declared.Record.{Record}
 use Rattle.majority.proofs.Nodes.{node-eq}
 
@@ -74,7 +73,6 @@ module _ {n m o : ℕ} {rs : List Record} (formed : WellFormed n m o rs) where
   gate-eq 𝓜 j p q = formed-eq 𝓜 j (omega arith) ∙ gate-worth 𝓜 (worth 𝓜 rs) (suc j) (recordAt rs j) (formed .gates j p q .0)
 
   -- an output's record stands for it
-  pub output-eq : (a j : ℕ) → j < o → outputValue a n m rs j ≡ worth (values a) rs (suc (n + m + j))
-  unfolding outputValue
-  output-eq a j h =
-      sym (formed-eq (values a) (n + m + j) (omega arith) ∙ output-worth (values a) _ _ _ (formed .outputs (n + m + j) (omega arith) (omega arith) .0))
+  pub output-eq : {A : Type 0} (𝓜 : Meaning A) (j : ℕ) → j < o → worth 𝓜 rs (suc (n + m + j)) ≡ edgeWorth 𝓜 (worth 𝓜 rs) (recordAt rs (n + m + j) .e1)
+  output-eq 𝓜 j h =
+      formed-eq 𝓜 (n + m + j) (omega arith) ∙ output-worth 𝓜 (worth 𝓜 rs) (suc (n + m + j)) _ (formed .outputs (n + m + j) (omega arith) (omega arith) .0)

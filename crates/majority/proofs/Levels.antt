@@ -1,6 +1,6 @@
 -- Levels and the highest of several numbers: bounds that stand in for `max`.
-use Prim.Native.Nat.{ℕ, zero, suc, _+_, _-_, _≤_, _<_, max}
-use mathlib.Core.Path.{_≡_, refl, _∙_}
+use Prim.Native.Nat.{ℕ, zero, suc, _+_, _≤_, _<_, max}
+use mathlib.Core.Path.{_≡_, refl, sym, ap₂, _∙_}
 use mathlib.Core.Bool.{Bool, true, false}
 use mathlib.Core.Logic.{⊎-elim}
 use mathlib.Core.List.{List}
@@ -10,10 +10,10 @@ use Rattle.majority.specs.If.{if_then_else_}
 use Rattle.majority.specs.Edge.{nodeOf, isInverted}
 use Rattle.majority.specs.Table.{Below, WellFormed}
 use Rattle.majority.specs.Node.{byKind, edgeWorth, recordWorth}
-use Rattle.majority.specs.Level.{above, levels, level, highest, depth}
+use Rattle.majority.specs.Level.{above, levels, level, outputLevel, highest, depth}
 use Rattle.majority.specs.declared.Record.{Record}
 use Rattle.majority.proofs.Nodes.{node-induction, node-zero}
-use Rattle.majority.proofs.Formed.{formed-eq, reads-lower}
+use Rattle.majority.proofs.Formed.{formed-eq, output-eq, reads-lower}
 
 pub above-each : (a b c : ℕ) → (a < above a b c) × (b < above a b c) × (c < above a b c)
 unfolding above
@@ -22,6 +22,15 @@ above-each a b c = (omega arith, omega arith, omega arith)
 pub above-least : (a b c l : ℕ) → a < l → b < l → c < l → above a b c ≤ l
 unfolding above
 above-least a b c l p q r = omega arith
+
+-- in any order
+pub above-first-second : (a b c : ℕ) → above b a c ≡ above a b c
+unfolding above
+above-first-second a b c = omega arith
+
+pub above-second-third : (a b c : ℕ) → above a c b ≡ above a b c
+unfolding above
+above-second-third a b c = omega arith
 
 -- by two comparisons
 pub above-by : (a b c x y : ℕ) → x ≡ max b c → y ≡ max a x → y + 1 ≡ above a b c
@@ -38,43 +47,44 @@ edge-level v e = go (isInverted e)
     go false = refl
 
 -- each of the numbers is at most the highest, and the highest is at most what none passes
-pub at-most-highest : (f : ℕ → ℕ) (k i j : ℕ) → i ≤ j → j < i + k → f j ≤ highest f i k
+pub at-most-highest : (f : ℕ → ℕ) (k j : ℕ) → j < k → f j ≤ highest f k
 unfolding highest
-at-most-highest f zero i j a b = absurd (omega arith)
-at-most-highest f (suc k) i j a b =
+at-most-highest f zero j h = absurd (omega arith)
+at-most-highest f (suc k) j h =
     ⊎-elim
     (λ e. rw e (omega arith))
-    (λ l. omega (arith, at-most-highest f k (suc i) j l (omega arith)))
-    (eq-or-lt-of-le a)
+    (λ l. omega (arith, at-most-highest f k j l))
+    (eq-or-lt-of-le (let l : j ≤ k = omega arith in l))
 
-pub highest-at-most : (f : ℕ → ℕ) (k i l : ℕ) → ((j : ℕ) → i ≤ j → j < i + k → f j ≤ l) → highest f i k ≤ l
+pub highest-at-most : (f : ℕ → ℕ) (k l : ℕ) → ((j : ℕ) → j < k → f j ≤ l) → highest f k ≤ l
 unfolding highest
-highest-at-most f zero i l h = omega arith
-highest-at-most f (suc k) i l h = omega (arith, h i (omega arith) (omega arith), highest-at-most f k (suc i) l (λ j a b. h j (omega arith) (omega arith)))
+highest-at-most f zero l h = omega arith
+highest-at-most f (suc k) l h = omega (arith, h k (omega arith), highest-at-most f k l (λ j p. h j (omega arith)))
 
--- no gate stands above the depth
-pub within-depth : (n m : ℕ) (rs : List Record) (k : ℕ) → n < k → k ≤ n + m → level rs k ≤ depth n m rs
-unfolding depth
-within-depth n m rs k p q = at-most-highest (level rs) m (n + 1) k (omega arith) (omega arith)
-
--- one more number at the end
-pub highest-more : (f : ℕ → ℕ) (k i : ℕ) → highest f i (suc k) ≡ max (highest f i k) (f (i + k))
+pub highest-same : (f g : ℕ → ℕ) (k : ℕ) → ((j : ℕ) → j < k → f j ≡ g j) → highest f k ≡ highest g k
 unfolding highest
-highest-more f zero i = let e : i + 0 ≡ i = omega arith in rw e (omega arith)
-highest-more f (suc k) i =
-    let e : i + suc k ≡ suc i + k = omega arith in
-    let rest = highest-more f k (suc i) in
-    rw e (regroup (f i) (highest f (suc i) k) (f (suc i + k)) _ rest)
-  where
-    regroup : (a b c d : ℕ) → d ≡ max b c → max a d ≡ max (max a b) c
-    regroup a b c d e = rw e (omega arith)
+highest-same f g zero h = refl
+highest-same f g (suc k) h = ap₂ max (highest-same f g k (λ j p. h j (omega arith))) (h k (omega arith))
 
--- the highest so far, of the gates after n inputs, with that of node i + 1
-pub depth-more : (f : ℕ → ℕ) (n i d l d′ : ℕ) → n ≤ i → d ≡ highest f (n + 1) (i - n) → l ≡ f (i + 1) → d′ ≡ max d l → d′ ≡ highest f (n + 1) (i + 1 - n)
-depth-more f n i d l d′ h p q r =
-    let e : i + 1 - n ≡ suc (i - n) = omega arith in
-    let e2 : n + 1 + (i - n) ≡ i + 1 = omega arith in
-    r ∙ rw (p, q, e, highest-more f (i - n) (n + 1), e2)
+-- one number more
+pub highest-more : (f : ℕ → ℕ) (j d l d′ : ℕ) → d ≡ highest f j → l ≡ f j → d′ ≡ max d l → d′ ≡ highest f (j + 1)
+unfolding highest
+highest-more f j d l d′ p q r = let e : j + 1 ≡ suc j = omega arith in r ∙ rw (p, q, e)
+
+-- no node that an output names stands above the depth, and the depth is at most what none of them passes
+module _ (n m o : ℕ) (rs : List Record) where
+  pub within-depth : (j : ℕ) → j < o → outputLevel n m rs j ≤ depth n m o rs
+  unfolding depth
+  within-depth j h = at-most-highest (outputLevel n m rs) o j h
+
+  pub depth-at-most : (l : ℕ) → ((j : ℕ) → j < o → outputLevel n m rs j ≤ l) → depth n m o rs ≤ l
+  unfolding depth
+  depth-at-most l h = highest-at-most (outputLevel n m rs) o l h
+
+-- an output's record stands as high as the node that the output names
+pub output-level : {n m o : ℕ} {rs : List Record} → WellFormed n m o rs → (j : ℕ) → j < o → outputLevel n m rs j ≡ level rs (suc (n + m + j))
+unfolding outputLevel
+output-level {rs = rs} formed j h = sym (output-eq formed levels j h ∙ edge-level (level rs) _)
 
 by-kind-most : (k i g o d l : ℕ) → i ≤ l → g ≤ l → o ≤ l → d ≤ l → byKind k i g o d ≤ l
 by-kind-most zero i g o d l a b c e = e

@@ -13,7 +13,7 @@ use Rattle.majority.specs.Edge.{nodeOf}
 use Rattle.majority.specs.Table.{recordAt, Below}
 use Rattle.majority.specs.Node.{Meaning, edgeWorth, worth}
 use Rattle.majority.specs.Value.{values, bit, outputValue}
-use Rattle.majority.specs.Level.{above, levels, level}
+use Rattle.majority.specs.Level.{above, levels, level, outputLevel}
 use Rattle.majority.specs.declared.Record.{Record}
 use Rattle.majority.specs.declared.Counts.{Counts}
 use Rattle.majority.proofs.Nodes.{edge-agrees, node-zero}
@@ -112,3 +112,12 @@ module _ {xs : List ℕ} {c : Counts} (sound : Sound xs c) where
   output-value a j h holds =
       let low = sound-reads (c .inputs + c .gates + j) (omega arith) in
       edge-holds (values a) holds (recordAt table (c .inputs + c .gates + j) .e1) (omega (arith, low .first))
+
+  -- the level of the node that it names
+  pub output-level : {ls : List ℕ} (j : ℕ) → j < c .outputs → Holds levels table (c .inputs + c .gates) ls
+      → levelAt ls (nodeOf (recordAt table (c .inputs + c .gates + j) .e1)) ≡ outputLevel (c .inputs) (c .gates) table j
+  unfolding levelAt outputLevel
+  output-level j h holds =
+      let limits = sound-accepted sound .limits in
+      let low = sound-reads (c .inputs + c .gates + j) (omega arith) .first in
+      rw (lt-ltb (nodeOf (recordAt table (c .inputs + c .gates + j) .e1)) 1057 (omega arith)) (holds .worths _ (omega arith))

@@ -21,7 +21,7 @@ evaluateOf xs used a = andThen (checkOf xs used) (valueOf a (tableOf xs (used / 
 
 -- size and depth of a table with these counts
 abbrev pub sizeOf : List Record → Counts → Size
-sizeOf rs c = record { gates = c .gates; depth = depth (c .inputs) (c .gates) rs }
+sizeOf rs c = record { gates = c .gates; depth = depth (c .inputs) (c .gates) (c .outputs) rs }
 
 unfoldable pub reportOf : List ℕ → ℕ → Reply Size
 reportOf xs used = andThen (checkOf xs used) (λ c. accepted (sizeOf (tableOf xs (used / 8)) c))

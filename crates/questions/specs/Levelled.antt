@@ -1,5 +1,5 @@
 -- Levels worked out in an array of 16-bit numbers, one a node (SPEC 2.4): of any array and any records.
-use Prim.Native.Nat.{ℕ, zero, suc, _-_, _%_, max}
+use Prim.Native.Nat.{ℕ, zero, suc, _-_, _%_}
 use mathlib.Core.List.{List}
 use lib.Dec.{ltb}
 use lib.ListN.{getD, set}
@@ -22,14 +22,6 @@ unfoldable pub levelledBy : List Record → ℕ → ℕ → List ℕ → List �
 levelledBy rs i zero ls = ls
 levelledBy rs i (suc k) ls = levelledBy rs (suc i) k (set ls (suc i) (gateLevel ls (recordAt rs i)))
 
--- the highest level that is set
-unfoldable pub highestBy : List Record → ℕ → ℕ → List ℕ → ℕ
-highestBy rs i zero ls = 0
-highestBy rs i (suc k) ls = max (gateLevel ls (recordAt rs i)) (highestBy rs (suc i) k (set ls (suc i) (gateLevel ls (recordAt rs i))))
-
 -- of the records from the first on, up to n; of none where there is no place for n nodes
 abbrev pub levelled : List Record → ℕ → ℕ → List ℕ → List ℕ
 levelled rs first n ls = if ltb 1056 n then ls else levelledBy rs first (n - first) ls
-
-abbrev pub highestLevel : List Record → ℕ → ℕ → List ℕ → ℕ
-highestLevel rs first n ls = if ltb 1056 n then 0 else highestBy rs first (n - first) ls

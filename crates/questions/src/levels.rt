@@ -9,14 +9,17 @@ use std::num::wrapping_add_u16;
 use tables::Checked;
 use tables::record_at;
 ghost use mathlib.Core.Path.{_≡_};
+ghost use Prim.Native.Nat.{_+_};
 ghost use Rattle.majority.specs.Edge.{nodeOf};
+ghost use Rattle.majority.specs.Level.{levels as levelsOf, depth as depthOf};
 ghost use Rattle.refusals.specs.Reply.{accepted, andThen};
 ghost use Rattle.tables.specs.Said.{saidCheck};
 ghost use Rattle.tables.specs.Bytes.{recordsOf};
 ghost use Rattle.tables.specs.Sound.{Sound, SoundAfter, tableIn};
 ghost use Rattle.questions.specs.Said.{saidReport};
 ghost use Rattle.questions.specs.Calls.{sizeOf};
-ghost use Rattle.questions.specs.Levelled.{levelAt, gateLevel, levelled, highestLevel};
+ghost use Rattle.questions.specs.Levelled.{levelAt, gateLevel, levelled};
+ghost use Rattle.questions.specs.inner.Worths.{Holds};
 
 fn wide(level: u16) -> usize
     ensures { λ r. ⌜ r ≡ level ⌝ }
@@ -45,22 +48,32 @@ fn gate_level(levels: &[u16; 1057], gate: Record) -> u16
     wrapping_add_u16(higher(first, higher(second, third)), 1)
 }
 
-// Sets the levels of the gates that are the records of s from `first` on, up to n, each from those of lower nodes; answers the highest.
+// Sets the levels of the gates that are the records of s from `first` on, up to n, each from those of lower nodes.
 // Where the array has no place for them nothing is set.
-pub fn set_levels(levels: &mut [u16; 1057], s: &[u8], first: usize, n: usize) -> u16
-    ensures highest { λ r. ⌜ r ≡ highestLevel (recordsOf (now (s .entry))) first n (now (levels .entry)) ⌝ }
-    ensures levels { λ _. ⌜ now (levels .exit) ≡ levelled (recordsOf (now (s .entry))) first n (now (levels .entry)) ⌝ }
+pub fn set_levels(levels: &mut [u16; 1057], s: &[u8], first: usize, n: usize)
+    ensures { λ _. ⌜ now (levels .exit) ≡ levelled (recordsOf (now (s .entry))) first n (now (levels .entry)) ⌝ }
 {
     if 1056 < n {
-        return 0;
+        return;
     }
-    let mut highest: u16 = 0;
     let mut i = first;
     while i < n {
-        let level = gate_level(levels, record_at(s, i));
-        levels[i + 1] = level;
-        highest = higher(highest, level);
+        levels[i + 1] = gate_level(levels, record_at(s, i));
         i += 1;
+    }
+}
+
+// The highest level of the nodes that outputs name, the levels of all nodes being set.
+fn depth(levels: &[u16; 1057], s: &[u8], counts: Counts) -> u16
+    requires { ⌜ Sound (now s) counts × Holds levelsOf (tableIn (now s) counts) (counts .inputs + counts .gates) (now levels) ⌝ }
+    ensures { λ r. ⌜ r ≡ depthOf (counts .inputs) (counts .gates) (counts .outputs) (tableIn (now (s .entry)) counts) ⌝ }
+{
+    let nodes = counts.inputs + counts.gates;
+    let mut highest: u16 = 0;
+    let mut j = 0;
+    while j < counts.outputs {
+        highest = higher(highest, edge_level(levels, record_at(s, nodes + j).e1));
+        j += 1;
     }
     highest
 }
@@ -71,10 +84,10 @@ fn size(s: &[u8], counts: Counts) -> Size
     ensures { λ r. ⌜ r ≡ sizeOf (tableIn (now (s .entry)) counts) counts ⌝ }
 {
     let mut levels = [0u16; 1057];
-    let depth = set_levels(&mut levels, s, counts.inputs, counts.inputs + counts.gates);
+    set_levels(&mut levels, s, counts.inputs, counts.inputs + counts.gates);
     Size {
         gates: counts.gates,
-        depth: wide(depth),
+        depth: wide(depth(&levels, s, counts)),
     }
 }
 

@@ -13,7 +13,7 @@ use Rattle.translation.specs.Rm3.{operation}
 use Rattle.translation.specs.Translate.{constant, plain, inverted, classOf, isConstant, needsHelper, place, gate3}
 use Rattle.majority.specs.declared.Record.{Record}
 
-pub class-constant : (e : ℕ) → nodeOf e ≡ 0 → classOf e ≡ constant
+class-constant : (e : ℕ) → nodeOf e ≡ 0 → classOf e ≡ constant
 unfolding classOf
 class-constant e h = rw (eq-eqb (nodeOf e) 0 h)
 

@@ -11,10 +11,7 @@ mod OutputPass  -- the pass that writes outputs and their helpers
 mod FitsBuffer  -- whether the RM3 table fits a buffer
 pub mod SaidOnce  -- the replies are one-to-one
 -- the depth
-mod PlaceLevels  -- the level of an edge's operand
-mod GateLevels  -- the level of a gate's operation
-mod LevelPass  -- the pass that sets levels
-mod DepthPass  -- the pass over the outputs for the depth
+mod LevelPass  -- the pass that sets levels, and what outputs then find there
 -- what a caller may conclude
 pub mod Replies  -- what a reply of `translate` tells its caller
 pub mod Claims  -- claimed counts that are those found give the plain reply

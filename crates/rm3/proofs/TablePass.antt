@@ -6,12 +6,12 @@ use mathlib.Core.List.{List, [], _∷_, _++_}
 use native.Mathlib.Omega.{arith}
 use lib.ListN.{length, take, drop}
 use Rattle.majority.specs.Table.{blank, output, recordAt, WellFormed}
-use Rattle.translation.specs.Translate.{after, Nodes3, place, outputs3, parts3, translation, operations}
+use Rattle.translation.specs.Translate.{after, Nodes3, place, outputs3, parts3, operations}
 use Rattle.majority.specs.declared.Record.{Record}
-use Rattle.translation.proofs.Begins.{Begins, begins-then, begins-append, length-more}
+use Rattle.translation.proofs.Begins.{Begins, begins-then, length-more}
 use Rattle.translation.proofs.Rm3Nodes.{named, nodes-begin}
 use Rattle.translation.proofs.Rm3Outputs.{outputs-begin}
-use Rattle.translation.proofs.Rm3Formed.{operandsOf, translated}
+use Rattle.translation.proofs.Rm3Formed.{translated}
 use Rattle.translation.proofs.Rm3ByRecord.{turn, nodes-end, output-turn, outputs-end}
 use Rattle.rm3.specs.inner.Turned.{Turned, Named}
 
@@ -32,11 +32,7 @@ module _ {n m o : ℕ} {rs : List Record} (formed : WellFormed n m o rs) where
       let none : n + m + 0 ≡ n + m = omega arith in
       record { count = refl; left = rw none (ap (λ (d : Nodes3). outputs3 (d .operands) (d .table) [] (drop (n + m) rs)) (so .left ∙ nodes-end formed operands ts (n + m) refl)) }
 
-  -- operands and table so far begin the final ones
-  pub turned-operands : {i : ℕ} {operands : List ℕ} {ts : List Record} → Turned n m rs i operands ts → Begins 0 operands (operandsOf n m rs)
-  unfolding operandsOf
-  turned-operands {i} {operands} {ts} so = rw (operandsOf, so .left) (nodes-begin operands ts (drop i (take (n + m) rs)) .0)
-
+  -- the table so far begins the final one
   pub turned-table : {i : ℕ} {operands : List ℕ} {ts : List Record} → Turned n m rs i operands ts → Begins blank ts (parts3 n m rs .table)
   unfolding parts3
   turned-table {i} {operands} {ts} so =
@@ -59,10 +55,6 @@ module _ {n m o : ℕ} {rs : List Record} (formed : WellFormed n m o rs) where
   pub named-end : {operands : List ℕ} {ts os : List Record} → Named n m rs operands o ts os → parts3 n m rs ≡ record { table = ts; outputs = os }
   named-end {operands} {ts} {os} so = so .left ∙ outputs-end formed operands ts os (n + m + o) refl
 
-  -- a table that begins the inputs and operations begins the whole, and is no longer than they are
-  pub begins-whole : {ts : List Record} → Begins blank ts (parts3 n m rs .table) → Begins blank ts (translation n m rs)
-  unfolding translation
-  begins-whole b = begins-then b (begins-append (parts3 n m rs .table) (parts3 n m rs .outputs))
-
+  -- a table that begins the inputs and operations is no longer than they are
   pub begins-size : {ts : List Record} → Begins blank ts (parts3 n m rs .table) → length ts ≤ n + operations n m rs
   begins-size b = omega (arith, b .longer, translated formed .size)

@@ -39,8 +39,8 @@ unfoldable pub translateBytes : List ℕ → ℕ → List ℕ → List ℕ
 translateBytes xs used ys = afterReply (rm3Of xs used (length ys)) ys
 
 -- the depth of the RM3 table of a table with these counts
-abbrev pub depthIn : List Record → Counts → Reply ℕ
-depthIn rs c = accepted (depth3 (c .inputs) (operations (c .inputs) (c .gates) rs) (translation (c .inputs) (c .gates) rs))
+abbrev pub depthIn : List Record → Counts → ℕ
+depthIn rs c = depth3 (c .inputs) (operations (c .inputs) (c .gates) rs) (c .outputs) (translation (c .inputs) (c .gates) rs)
 
 unfoldable pub depthOf : List ℕ → ℕ → Reply ℕ
-depthOf xs used = andThen (checkOf xs used) (depthIn (tableOf xs (used / 8)))
+depthOf xs used = andThen (checkOf xs used) (λ c. accepted (depthIn (tableOf xs (used / 8)) c))

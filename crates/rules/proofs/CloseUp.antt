@@ -1,5 +1,5 @@
 -- Closing up keeps a table where with each record the nodes that it names are kept, and all inputs and outputs are.
-use Prim.Native.Nat.{ℕ, zero, suc, _+_, _≤_, _<_}
+use Prim.Native.Nat.{ℕ, suc, _+_, _≤_, _<_}
 use mathlib.Core.Path.{_≡_, refl, sym, ap, _∙_}
 use mathlib.Core.Bool.{Bool, true}
 use mathlib.Core.List.{List, map}
@@ -10,13 +10,14 @@ use Rattle.majority.specs.Edge.{nodeOf}
 use Rattle.majority.specs.Table.{recordAt, WellFormed}
 use Rattle.majority.specs.Node.{Meaning, edgeWorth, worth}
 use Rattle.majority.specs.Value.{values}
-use Rattle.majority.specs.Level.{levels, level}
+use Rattle.majority.specs.Level.{levels, level, depth}
 use Rattle.majority.specs.Edit.{edges}
 use Rattle.rules.specs.Sweep.{kept, renumber, closeUp}
-use Rattle.rules.specs.Kept.{closingUp, Near, NodesKept}
+use Rattle.rules.specs.Kept.{closingUp, NodesKept}
 use Rattle.majority.specs.declared.Record.{Record}
 use Rattle.majority.proofs.Nodes.{equals, edge-related, node-induction, node-zero}
 use Rattle.majority.proofs.Formed.{reads-lower}
+use Rattle.majority.proofs.Levels.{highest-same, output-level}
 use Rattle.rules.proofs.Placed.{Placed, placed, all-placed, Moved, edges-at, edges-placed}
 use Rattle.rules.proofs.KeptByNodes.{Each, counterpart}
 use Rattle.rules.proofs.KeptNodes.{kept-in, kept-lower, kept-order, kept-all, stands, kept-at, kept-length, renumber-node, renumber-parity, renumber-zero}
@@ -107,18 +108,12 @@ module _ {keep : ℕ → Bool} {n m m′ o : ℕ} {rs : List Record} (may : Keep
     outputs = λ j h.
         let s : keep (suc (n + m + j)) ≡ true = may .outputs (n + m + j) (omega arith) (omega arith) in
         (s, kept-in keep (n + m + j) s ∙ ap suc (outputs-move j (omega arith)), refl);
-    gates = from;
   }
+
+  -- the node that an output names keeps its level, and so depth is the same
+  pub closed-depth : depth n m′ o after ≡ depth n m o rs
+  unfolding depth
+  closed-depth = highest-same _ _ o (λ j h. output-level closed-formed j h ∙ sym (level-of j h) ∙ sym (output-level (may .formed) j h))
     where
-      -- each gate has come from one
-      from : (k : ℕ) → n < k → k ≤ n + m′ → Near 0 n m rs (level after k)
-      from zero p q = absurd (omega arith)
-      from (suc k) p q =
-          let w = stands keep (n + m) k (omega (arith, may .gates)) in
-          let e : suc k ≡ kept keep 0 (suc (w .at)) = omega (arith, kept-in keep (w .at) (w .kept-too), w .place) in
-          record {
-            gate = suc (w .at);
-            from = omega (arith, w .place, kept-lower keep (w .at));
-            upto = w .early;
-            near = rw e (omega (arith, closed-nodes levels (suc (w .at)) (omega (arith, w .early)) (w .kept-too)));
-          }
+      level-of : (j : ℕ) → j < o → level rs (suc (n + m + j)) ≡ level after (suc (n + m′ + j))
+      level-of j h = let s = closed-kept .outputs j h in rw (s .1) at (closed-nodes levels (suc (n + m + j)) (omega arith) (s .0))

@@ -1,5 +1,5 @@
 -- A copy of the gates up to g, among gates that are inserted before g. Its root has g's value under an assignment that gives the copy's node and the edge
--- to which it is redirected the same value; and where that edge stands no higher, no gate of the copy stands higher than its original.
+-- to which it is redirected the same value; and where that edge stands no higher than that node, the root stands no higher than g.
 use Prim.Native.Nat.{ℕ, suc, _+_, _-_, _≤_, _<_}
 use mathlib.Core.Path.{_≡_, sym, ap, _∙_}
 use mathlib.Core.List.{List, _++_}
@@ -14,14 +14,13 @@ use Rattle.majority.specs.Level.{levels, level}
 use Rattle.majority.specs.Edit.{edges, redirectAll, insert}
 use Rattle.rules.specs.Rules.{plain}
 use Rattle.rules.specs.Voter.{Copy, own, copied, root}
-use Rattle.rules.specs.Kept.{Near}
 use Rattle.majority.specs.declared.Record.{Record}
 use Rattle.rules.proofs.Placed.{edges-at, edges-below}
 use Rattle.rules.proofs.Edges.{plain-worth, redirect-lowers}
-use Rattle.rules.proofs.Redirect.{redirect-formed, redirect-edge-values, redirect-levels, redirect-edge-levels}
+use Rattle.rules.proofs.Redirect.{redirect-formed, redirect-edge-values, redirect-edge-levels}
 use Rattle.rules.proofs.GateNodes.{GateOf}
-use Rattle.rules.proofs.Raise.{raised-from, raised-cases, raise-below, raise-node}
-use Rattle.rules.proofs.RaiseNodes.{raised-nodes, raised-edge}
+use Rattle.rules.proofs.Raise.{raised-cases, raise-below, raise-node}
+use Rattle.rules.proofs.RaiseNodes.{raised-edge}
 use Rattle.rules.proofs.Insert.{insert-new}
 use Rattle.rules.proofs.InsertNodes.{GatesInOrder, insert-formed}
 
@@ -128,9 +127,6 @@ module _ {n m o g : ℕ} {rs : List Record} (is : GateOf n m o g rs) where
       inside = omega (arith, is .from, is .upto, room)
 
       module _ {A : Type 0} (𝓜 : Meaning A) where
-        copy-nodes : (k : ℕ) → k ≤ g → worth 𝓜 (table copy) k ≡ worth 𝓜 after (raised (suc n) d k)
-        copy-nodes = raised-nodes formed (insert-formed is news gates) (suc n) d g (omega arith) (omega (arith, is .upto)) inside record-after 𝓜
-
         copy-root : edgeWorth 𝓜 (worth 𝓜 (table copy)) top ≡ edgeWorth 𝓜 (worth 𝓜 after) (root n g copy)
         copy-root = raised-edge formed (insert-formed is news gates) (suc n) d g (omega arith) (omega (arith, is .upto)) inside record-after 𝓜 top top-reads
 
@@ -139,12 +135,6 @@ module _ {n m o g : ℕ} {rs : List Record} (is : GateOf n m o g rs) where
           sym (copy-root (values a))
           ∙ sym (redirect-edge-values (copy .node) (copy .edge) (is .formed) (here .stands .some) (here .stands .lower) a same (plain g) (omega (arith, is .upto)))
           ∙ plain-worth (values a) (value a rs) g
-
-      pub copy-near : (i : ℕ) → i < g - n → Near 0 n m rs (level after (g + (copy .before + i)))
-      copy-near i h =
-          let p : raised (suc n) d (suc (n + i)) ≡ g + (copy .before + i) = raised-from (suc n) d (suc (n + i)) (omega arith) ∙ omega (arith, is .from) in
-          let l = redirect-levels (copy .node) (copy .edge) (is .formed) (here .stands .some) (here .stands .lower) (here .stands .deep) (suc (n + i)) (omega (arith, is .upto)) in
-          record { gate = suc (n + i); from = omega arith; upto = omega (arith, is .upto); near = rw (← p, ← copy-nodes levels (suc (n + i)) (omega arith)) l }
 
       pub root-level : edgeWorth levels (level after) (root n g copy) < level rs g + 1
       root-level =

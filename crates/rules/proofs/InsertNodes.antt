@@ -1,18 +1,17 @@
--- Inserting gates that read lower nodes, each other too, and stand no higher than some gate keeps a table: each old node keeps its worth under its new number.
+-- Inserting gates that read lower nodes, each other too, keeps a table: each old node keeps its worth under its new number.
 use Prim.Native.Nat.{ℕ, suc, _+_, _-_, _≤_, _<_}
-use mathlib.Core.Path.{_≡_, refl, sym, ap, _∙_, subst}
+use mathlib.Core.Path.{_≡_, refl, sym, ap, _∙_}
 use mathlib.Core.List.{List}
 use native.Mathlib.Omega.{arith}
-use native.Mathlib.Decide.{decLt}
 use lib.ListN.{length}
 use Rattle.majority.specs.Edge.{nodeOf, raised, raise}
 use Rattle.majority.specs.Table.{recordAt, Below, WellFormed}
 use Rattle.majority.specs.Node.{Meaning, edgeWorth, worth}
 use Rattle.majority.specs.Value.{values}
-use Rattle.majority.specs.Level.{levels, level}
+use Rattle.majority.specs.Level.{levels}
 use Rattle.majority.specs.Edit.{insert}
 use Rattle.rules.specs.Rules.{plain}
-use Rattle.rules.specs.Kept.{raising, Near, NodesKept}
+use Rattle.rules.specs.Kept.{raising, NodesKept}
 use Rattle.majority.specs.declared.Record.{Record}
 use Rattle.majority.proofs.Nodes.{edge-agrees}
 use Rattle.majority.proofs.Formed.{below-more}
@@ -94,23 +93,14 @@ module _ {n m o g : ℕ} {rs : List Record} (is : GateOf n m o g rs) (news : Lis
         let new : GateOf n (m + c) o (g + t) after = record { formed = insert-formed; from = omega (arith, is .from); upto = omega (arith, is .upto) } in
         gate-node new 𝓜 ∙ ap (gateWorth 𝓜 (worth 𝓜 after)) (ap (recordAt after) e ∙ insert-new g news rs some fits t h)
 
-  pub insert-kept : ((t : ℕ) → t < c → Near 0 n m rs (level after (g + t))) → NodesKept 0 n m (m + c) o (raising g c) rs after
-  insert-kept deep = record {
+  pub insert-kept : NodesKept 0 n m (m + c) o (raising g c) rs after
+  insert-kept = record {
     formed = insert-formed;
     values = λ a k h s. sym (insert-nodes (values a) k h);
     levels = λ k h s. omega (arith, insert-nodes levels k h);
     nodes = within;
     outputs = λ j h. (refl, raised-from g c (suc (n + m + j)) (omega (arith, is .upto)) ∙ omega arith, refl);
-    gates = λ k p q. go k p q (decLt k g) (decLt k (g + c));
   }
-    where
-      old : (k i : ℕ) → n < i → i ≤ n + m → raised g c i ≡ k → Near 0 n m rs (level after k)
-      old k i p q e = record { gate = i; from = p; upto = q; near = rw (← e) (omega (arith, insert-nodes levels i (omega arith))) }
-
-      go : (k : ℕ) → n < k → k ≤ n + (m + c) → Dec (k < g) → Dec (k < g + c) → Near 0 n m rs (level after k)
-      go k p q (yes l) _ = old k k p (omega (arith, is .upto)) (raised-below g c k l)
-      go k p q (no l) (yes l′) = let e : g + (k - g) ≡ k = omega arith in subst (λ (k : ℕ). Near 0 n m rs (level after k)) e (deep (k - g) (omega arith))
-      go k p q (no l) (no l′) = old k (k - c) (omega (arith, is .from)) (omega arith) (raised-from g c (k - c) (omega arith) ∙ omega arith)
 
 -- new gates that read none of the others
 module _ {n m o g : ℕ} {rs : List Record} (is : GateOf n m o g rs) (news : List Record) (gates : GatesBelow g news) {A : Type 0} (𝓜 : Meaning A) where

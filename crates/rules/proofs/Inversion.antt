@@ -125,5 +125,4 @@ module _ {n m o g : ℕ} {rs : List Record} (is : GateOf n m o g rs) where
     levels = λ k h s. omega (arith, same-level k h);
     nodes = λ k h. h;
     outputs = λ j h. (refl, refl, ne-eqb (suc (n + m + j)) g (λ e. omega (arith, is .upto)));
-    gates = λ k p q. record { gate = k; from = p; upto = q; near = omega (arith, same-level k (omega arith)) };
   }

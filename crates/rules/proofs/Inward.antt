@@ -19,7 +19,7 @@ use Rattle.majority.proofs.Levels.{above-least}
 use Rattle.majority.proofs.MajorityLaws.{majority-distributive}
 use Rattle.rules.proofs.GateNodes.{gateWorth, GateOf, gate-reads, gate-node, gate-level, named-reads, named-worth, named-level}
 use Rattle.rules.proofs.InsertNodes.{GatesBelow, in-order, insert-edge}
-use Rattle.rules.proofs.InsertAndBecome.{one-new, growth-kept, first-inserted, near-g}
+use Rattle.rules.proofs.InsertAndBecome.{one-new, growth-kept, first-inserted}
 
 module _ {n m o g : ℕ} {rs : List Record} (is : GateOf n m o g rs) where
   abbrev r : Record
@@ -89,7 +89,6 @@ module _ {n m o g : ℕ} {rs : List Record} (is : GateOf n m o g rs) where
         let low : gateWorth levels (level rs) new ≤ level rs g = above-least _ _ _ _ (omega (arith, lv .0, lp .2)) (omega (arith, lv .1, lq .2)) (lv .2) in
         growth-kept is (new ∷ []) (in-order g (new ∷ []) gates) last refl
         (record { first = omega (arith, p-reads .first); second = omega (arith, p-reads .second); third = omega arith })
-        (near-g is (new ∷ []) gates (one-new (λ s. gateWorth levels (level rs) s ≤ level rs g) new low))
         (λ a. before (values a) ∙ majority-distributive _ _ _ _ _ ∙ sym (after (values a)))
         (rw (after levels) (above-least _ _ _ _ (omega (arith, lv .0, lp .0)) (omega (arith, lv .0, lp .1)) (omega arith)))
 

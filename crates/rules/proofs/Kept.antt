@@ -44,10 +44,6 @@ nodes-then {n = n} {m₁} {m₂} {o = o} {p} {q} {rs₁} w u = record {
       let s = w .outputs j h in
       let t = u .outputs j h in
       (rw (s .0, s .1) (t .0), ap (q .place) (s .1) ∙ t .1, rw (s .2, s .1) (t .2));
-  gates = λ k from upto.
-      let g = u .gates k from upto in
-      let f = w .gates (g .gate) (g .from) (g .upto) in
-      record { gate = f .gate; from = f .from; upto = f .upto; near = omega (arith, f .near, g .near) };
 }
   where
     inside : (k : ℕ) → k ≤ n + m₁ + o → p .place k ≤ n + m₂ + o

@@ -7,25 +7,28 @@ use native.Mathlib.Decide.{decLt}
 use Rattle.majority.specs.Edge.{nodeOf}
 use Rattle.majority.specs.Table.{recordAt, WellFormed}
 use Rattle.majority.specs.Node.{Meaning, edgeWorth, worth}
-use Rattle.majority.specs.Value.{value}
-use Rattle.majority.specs.Level.{level, depth}
+use Rattle.majority.specs.Value.{values, value, outputValue}
+use Rattle.majority.specs.Level.{level}
 use Rattle.majority.specs.Edit.{edges}
 use Rattle.rules.specs.Kept.{Moves, inPlace, NodesKept, Kept}
 use Rattle.majority.specs.declared.Record.{Record}
 use Rattle.majority.proofs.Nodes.{Respects, equals, record-related, edge-agrees, node-induction, node-zero}
 use Rattle.majority.proofs.Formed.{formed-eq, output-eq, not-input, reads-lower}
-use Rattle.majority.proofs.Levels.{highest-at-most, within-depth}
+use Rattle.majority.proofs.Levels.{within-depth, depth-at-most, output-level}
 
--- outputs are worth what their records are, and no gate stands more than δ above the old depth
+-- an output's record has the value of the output and the level of the node that it names
 pub kept-by-nodes : {δ n m m′ o : ℕ} {moves : Moves} {rs rs′ : List Record} → WellFormed n m o rs → NodesKept δ n m m′ o moves rs rs′ → Kept δ n m m′ o rs rs′
-unfolding depth
-kept-by-nodes {δ} {n} {m} {m′} {rs = rs} {rs′} old w = record {
+unfolding outputValue
+kept-by-nodes {δ} {n} {m} {m′} {o} {rs = rs} {rs′} old w = record {
   formed = w .formed;
   outputs = λ a j h.
       let s = w .outputs j h in
-      output-eq (w .formed) a j h ∙ (rw (s .1, s .2) at (w .values a (suc (n + m + j)) (omega arith) (s .0))) ∙ sym (output-eq old a j h);
-  deep = highest-at-most (level rs′) m′ (n + 1) _
-      (λ k p q. let u = w .gates k (omega arith) (omega arith) in omega (arith, u .near, within-depth n m rs (u .gate) (u .from) (u .upto)));
+      sym (output-eq (w .formed) (values a) j h) ∙ (rw (s .1, s .2) at (w .values a (suc (n + m + j)) (omega arith) (s .0))) ∙ output-eq old (values a) j h;
+  deep = depth-at-most n m′ o rs′ _
+      (λ j h.
+      let s = w .outputs j h in
+      let rise = rw (s .1) at (w .levels (suc (n + m + j)) (omega arith) (s .0)) in
+      omega (arith, rise, output-level (w .formed) j h, output-level old j h, within-depth n m o rs j h));
 }
 
 -- where no node moves
@@ -39,7 +42,6 @@ nodes-in-place new same rise = record {
   levels = λ k h s. rise k h;
   nodes = λ k h. h;
   outputs = λ j h. (refl, refl, refl);
-  gates = λ k p q. record { gate = k; from = p; upto = q; near = rise k (omega arith) };
 }
 
 -- P of each of a record's three edges

@@ -16,7 +16,7 @@ use Rattle.majority.proofs.Levels.{above-least}
 use Rattle.majority.proofs.MajorityLaws.{majority-distributive}
 use Rattle.rules.proofs.GateNodes.{gateWorth, GateOf, gate-reads, gate-node, gate-level, named-reads, named-worth, named-level}
 use Rattle.rules.proofs.InsertNodes.{GatesBelow, in-order, insert-edge, inserted-edge}
-use Rattle.rules.proofs.InsertAndBecome.{two-new, growth-kept, first-inserted, near-g}
+use Rattle.rules.proofs.InsertAndBecome.{two-new, growth-kept, first-inserted}
 
 module _ {n m o g : ℕ} {rs : List Record} (is : GateOf n m o g rs) where
   abbrev r : Record
@@ -77,6 +77,5 @@ module _ {n m o g : ℕ} {rs : List Record} (is : GateOf n m o g rs) where
         let low-q : gateWorth levels (level rs) q ≤ level rs g = above-least _ _ _ _ (lv .0) (lv .1) (omega (arith, lv .2, lh .1)) in
         growth-kept is (p ∷ q ∷ []) (in-order g (p ∷ q ∷ []) gates) last refl
         (record { first = omega arith; second = omega arith; third = omega (arith, h-reads .third) })
-        (near-g is (p ∷ q ∷ []) gates (two-new (λ s. gateWorth levels (level rs) s ≤ level rs g) p q low-p low-q))
         (λ a. before (values a) ∙ sym (majority-distributive _ _ _ _ _) ∙ sym (after (values a)))
         (rw (after levels) (above-least _ _ _ _ (omega arith) (omega arith) (omega (arith, lv .2, lh .2))))

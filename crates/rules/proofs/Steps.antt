@@ -1,6 +1,6 @@
 -- What an accepted step keeps, whatever its rule, and that its table stays within the gates' limit and the buffer.
 use Prim.Native.Nat.{ℕ, _+_, _*_, _≤_}
-use mathlib.Core.Path.{_≡_, refl}
+use mathlib.Core.Path.{_≡_, refl, sym, ap, _∙_}
 use mathlib.Core.Bool.{Bool, true, false}
 use mathlib.Core.List.{List}
 use native.Mathlib.Omega.{arith}
@@ -9,12 +9,13 @@ use lib.ListN.{length}
 use Rattle.refusals.specs.Reply.{accepted}
 use Rattle.majority.specs.If.{if_then_else_}
 use Rattle.majority.specs.Table.{WellFormed}
+use Rattle.majority.specs.Level.{depth}
 use Rattle.majority.specs.Check.{count}
 use Rattle.majority.specs.declared.Record.{Record}
 use Rattle.majority.proofs.Order.{order-counts}
 use Rattle.majority.proofs.Accepted.{Accepted, order-of}
 use Rattle.rules.specs.Kept.{movesOf, movesBy, NodesKept, Kept}
-use Rattle.rules.specs.Step.{isSweep, fieldsFit, hasForm, inserted, rewritten, step, deepens, deepensBy, voters, votersBy}
+use Rattle.rules.specs.Step.{ruleOf, isSweep, fieldsFit, hasForm, inserted, rewritten, step, deepens, deepensBy, voters, votersBy}
 use Rattle.rules.specs.declared.Step.{Step}
 use Rattle.rules.specs.declared.Rule.{Rule}
 use Rattle.rules.specs.declared.Rule.the-variants.{Exchange, Majority, Associativity, Outward, Inward, Inversion, Share, Sweep, Voter, Opposite}
@@ -26,7 +27,7 @@ use Rattle.rules.proofs.Associativity.{associativity-kept}
 use Rattle.rules.proofs.Outward.{outward-kept}
 use Rattle.rules.proofs.Inward.{inward-kept}
 use Rattle.rules.proofs.Inversion.{inversion-kept}
-use Rattle.rules.proofs.Sweep.{left, left-fewer, sweep-kept}
+use Rattle.rules.proofs.Sweep.{left, left-fewer, sweep-kept, sweep-depth}
 use Rattle.rules.proofs.Voter.{voter-kept}
 use Rattle.rules.proofs.AcceptedStep.{Taken, Ruled, ruled, gate-field, share-field, voter-field}
 
@@ -81,6 +82,10 @@ module _ {n m o : ℕ} {rs : List Record} (formed : WellFormed n m o rs) {bytes 
   pub taken-nodes : NodesKept (rises rule) n m (count 2 rs′) o (movesOf n rs rule g) rs rs′
   taken-nodes = rw taken-count outcome
 
+  taken-depth : rule ≡ Sweep → depth n (count 2 rs′) o rs′ ≡ depth n m o rs
+  unfolding rewritten
+  taken-depth is = rw (taken-count, taken .result, is) (sweep-depth formed)
+
   taken-gates : count 2 rs′ ≤ 1024
   taken-gates = omega (arith, taken-count, few-gates formed rule g, taken .few)
 
@@ -97,6 +102,13 @@ module _ {n m o : ℕ} {rs : List Record} (formed : WellFormed n m o rs) (bytes 
 
   pub step-kept : Kept (deepensBy s + votersBy s) n m (count 2 rs′) o rs rs′
   step-kept = kept-by-nodes formed step-nodes
+
+  -- a sweep, rule 8, keeps depth itself
+  pub sweep-step-depth : s .rule ≡ 8 → depth n (count 2 rs′) o rs′ ≡ depth n m o rs
+  unfolding ruleOf
+  sweep-step-depth is =
+      let known : accepted Sweep ≡ accepted (by .rule) = sym (ap ruleOf is) ∙ by .known in
+      taken-depth formed (by .taken) (cc)
 
   pub step-gates : count 2 rs′ ≤ 1024
   step-gates = taken-gates formed (by .taken)

@@ -8,11 +8,12 @@ use native.Mathlib.Nat.{zero-add}
 use native.Mathlib.Decide.{decLt}
 use Rattle.majority.specs.Table.{recordAt, WellFormed}
 use Rattle.majority.specs.Node.{byKind}
+use Rattle.majority.specs.Level.{depth}
 use Rattle.rules.specs.Sweep.{member, reached, stays, kept, sweep}
 use Rattle.rules.specs.Kept.{closingUp, NodesKept}
 use Rattle.majority.specs.declared.Record.{Record}
 use Rattle.rules.proofs.KeptNodes.{kept-lower, kept-order, kept-all}
-use Rattle.rules.proofs.CloseUp.{Keepable, closed-kept}
+use Rattle.rules.proofs.CloseUp.{Keepable, closed-kept, closed-depth}
 use Rattle.rules.proofs.Reached.{Names, gate-reached, output-reached}
 
 -- a reached node stays, whatever its record
@@ -77,3 +78,7 @@ module _ {n m o : ℕ} {rs : List Record} (formed : WellFormed n m o rs) where
   pub sweep-kept : NodesKept 0 n m (left n m rs) o (closingUp (stays rs)) rs (sweep rs)
   unfolding sweep
   sweep-kept = closed-kept keepable
+
+  pub sweep-depth : depth n (left n m rs) o (sweep rs) ≡ depth n m o rs
+  unfolding sweep
+  sweep-depth = closed-depth keepable

@@ -15,7 +15,7 @@ use Rattle.majority.specs.Value.{majorityOf, values, value}
 use Rattle.majority.specs.Level.{levels, level}
 use Rattle.majority.specs.Edit.{nodeRecord, insert, become}
 use Rattle.rules.specs.Voter.{edgeTo, pairGate, pairPolarity, voterForm, Copy, copied, firstCopy, secondCopy, thirdCopy, copies, votes, voter}
-use Rattle.rules.specs.Kept.{raising, turned, Near, NodesKept}
+use Rattle.rules.specs.Kept.{raising, turned, NodesKept}
 use Rattle.majority.specs.declared.Record.{Record}
 use Rattle.majority.proofs.Logic.{both}
 use Rattle.majority.proofs.Levels.{above-least, edge-level}
@@ -24,7 +24,7 @@ use Rattle.majority.proofs.MajorityLaws.{majority-equal, majority-last, majorit
 use Rattle.rules.proofs.GateNodes.{GateOf, gate-reads, gate-node, gate-level}
 use Rattle.rules.proofs.InsertNodes.{GatesInOrder}
 use Rattle.rules.proofs.InsertAndBecome.{growth-kept}
-use Rattle.rules.proofs.Copies.{StandsFor, CopyIn, Exact, copied-length, copy-gate, root-reads, copy-exact, copy-near, root-level}
+use Rattle.rules.proofs.Copies.{StandsFor, CopyIn, Exact, copied-length, copy-gate, root-reads, copy-exact, root-level}
 use Rattle.rules.proofs.Pair.{edge-to-value, edges-differ, Place, of-place, two-decide, Pair, has-pair}
 
 -- the vote: x and y are the values of the edges to a and b, z that of c. The first copy is right where y is the inverse of x, the others where z is x or y
@@ -148,6 +148,5 @@ module _ {n m o g : ℕ} {rs : List Record} (is : GateOf n m o g rs) (a b : ℕ)
       subst (λ (c : ℕ). NodesKept 1 n m (m + c) o (raising g c) rs (become (g + c) (votes n g a b rs) after)) thrice
       (growth-kept is news gates (votes n g a b rs) refl
       (record { first = root-reads is first-in; second = root-reads is second-in; third = root-reads is third-in })
-      (by-copy (λ t. Near 0 n m rs (level after (g + t))) (copy-near is first-in gates) (copy-near is second-in gates) (copy-near is third-in gates))
       (λ i. sym (two-exact i _ _ _ _ (copy-exact is first-in gates i) (copy-exact is second-in gates i) (copy-exact is third-in gates i)))
       (above-least _ _ _ _ (root-level is first-in gates) (root-level is second-in gates) (root-level is third-in gates)))

@@ -64,13 +64,6 @@ movesBy n rs s = movesAs (ruleOf (s .rule)) n rs (s .gate)
 abbrev pub turned : Bool → Bool → Bool
 turned t v = if t then not v else v
 
--- a level at most δ above that of one of the gates of rs
-pub record Near (δ n m : ℕ) (rs : List Record) (l : ℕ) : Type 0 where
-  pub gate : ℕ
-  pub from : n < gate
-  pub upto : gate ≤ n + m
-  pub near : l ≤ level rs gate + δ
-
 -- from the table rs of m gates to rs′ of m′ gates, in which the nodes of rs stand as `moves` says
 pub record NodesKept (δ n m m′ o : ℕ) (moves : Moves) (rs rs′ : List Record) : Type 0 where
   pub formed : WellFormed n m′ o rs′
@@ -81,11 +74,9 @@ pub record NodesKept (δ n m m′ o : ℕ) (moves : Moves) (rs rs′ : List Reco
   -- nodes stay before the outputs, and these stay uninverted in their order
   pub nodes : (k : ℕ) → k ≤ n + m → moves .place k ≤ n + m′
   pub outputs : (j : ℕ) → j < o → (moves .stays (suc (n + m + j)) ≡ true) × (moves .place (suc (n + m + j)) ≡ suc (n + m′ + j)) × (moves .inverted (suc (n + m + j)) ≡ false)
-  -- each gate, an old or a new one, stands at most δ above some gate of rs
-  pub gates : (k : ℕ) → n < k → k ≤ n + m′ → Near δ n m rs (level rs′ k)
 
 -- from the table rs of m gates to rs′ of m′ gates: rs′ is well formed, each output keeps its value under each assignment, and depth rises by at most δ
 pub record Kept (δ n m m′ o : ℕ) (rs rs′ : List Record) : Type 0 where
   pub formed : WellFormed n m′ o rs′
   pub outputs : (a j : ℕ) → j < o → outputValue a n m′ rs′ j ≡ outputValue a n m rs j
-  pub deep : depth n m′ rs′ ≤ depth n m rs + δ
+  pub deep : depth n m′ o rs′ ≤ depth n m o rs + δ

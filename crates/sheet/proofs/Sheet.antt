@@ -3,7 +3,7 @@ use mathlib.Core.Path.{_≡_, refl}
 use mathlib.Core.List.{map}
 use Rattle.majority.specs.Node.{edgeWorth, recordWorth, worths, worth}
 use Rattle.majority.specs.Value.{majorityOf, outputValue, number, outputNumber}
-use Rattle.majority.specs.Level.{above, highest, depth}
+use Rattle.majority.specs.Level.{above, outputLevel, highest, depth}
 use Rattle.majority.specs.Seek.{firstFrom}
 use Rattle.majority.specs.Check.{kindBefore, badKindAt, count, faulty, faultyAt, checkFields, checkKinds, checkRecords}
 use Rattle.majority.specs.Edge.{flip, raise, redirect}
@@ -23,5 +23,5 @@ use Rattle.rewriting.specs.Script.{stepsFrom, runBy, scriptBy}
 use Rattle.sheet.specs.Sheet.{Example, answerTo, sheet}
 
 pub answered : map (λ (e : Example). answerTo (e .question)) sheet ≡ map (λ (e : Example). e .answer) sheet
-unfolding evaluateOf reportOf outputNumber number outputValue depth highest worth worths recordWorth edgeWorth majorityOf above encode checkOf decode fieldOf fieldAt checkRecords checkKinds checkFields badKindAt kindBefore count faulty faultyAt firstFrom flip raise redirect redirectAll insert become majorityForm majorityRule associativityForm associativity outwardForm outward oppositeForm opposite among pairIn hasPair pairGate pairPolarity voterForm copied voter member stays renumber closeUp sweep ruleOf fieldsFit hasForm rewritten stepBy step holding holdingInstead stepTable stepOf stepBytes stepsFrom runBy scriptBy rm3Of classOf middle place gate3 parts3 translation operations
+unfolding evaluateOf reportOf outputNumber number outputValue depth highest outputLevel worth worths recordWorth edgeWorth majorityOf above encode checkOf decode fieldOf fieldAt checkRecords checkKinds checkFields badKindAt kindBefore count faulty faultyAt firstFrom flip raise redirect redirectAll insert become majorityForm majorityRule associativityForm associativity outwardForm outward oppositeForm opposite among pairIn hasPair pairGate pairPolarity voterForm copied voter member stays renumber closeUp sweep ruleOf fieldsFit hasForm rewritten stepBy step holding holdingInstead stepTable stepOf stepBytes stepsFrom runBy scriptBy rm3Of classOf middle place gate3 parts3 translation operations
 answered = refl

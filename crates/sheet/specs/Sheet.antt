@@ -156,7 +156,10 @@ sheet =
     ∷ translate P2 ⟶ makes (input ∷ input ∷ input ∷ operation 0 3 1 ∷ operation 2 5 4 ∷ output 6 ∷ [])
     ∷ evaluate P3 upTo7 ⟶ outputs (1 ∷ 1 ∷ 1 ∷ 0 ∷ 1 ∷ 0 ∷ 0 ∷ 0 ∷ [])
     ∷ translate P3 ⟶ makes (input ∷ input ∷ input ∷ operation 0 3 1 ∷ operation 0 4 1 ∷ operation 5 2 6 ∷ output 7 ∷ [])
+    ∷ report P4 ⟶ size 1 1
     ∷ run P4 (on 2 2 ∷ []) ⟶ leaves 1 finished (input ∷ gate 2 2 0 ∷ output 3 ∷ [])
+    -- the gate is still there, and no output names it
+    ∷ report (input ∷ gate 2 2 0 ∷ output 3 ∷ []) ⟶ size 1 0
     ∷ run P4 (on 2 2 ∷ swept ∷ []) ⟶ leaves 2 finished (input ∷ output 3 ∷ [])
     ∷ translate (input ∷ output 3 ∷ []) ⟶ makes (input ∷ operation 0 2 1 ∷ output 3 ∷ [])
     ∷ run P5 (on 10 2 ∷ []) ⟶ leaves 1 finished (input ∷ gate 2 3 0 ∷ output 1 ∷ [])

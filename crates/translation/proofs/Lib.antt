@@ -15,9 +15,8 @@ pub mod Totals  -- the sum over records
 pub mod Rm3Count  -- how many records each part adds
 pub mod Rm3Size  -- how many operations in all
 -- what a loop needs
-pub mod Rm3Operands  -- operands of the constant and of inputs
 pub mod Rm3ByRecord  -- the translation, record by record
-pub mod Rm3Levels  -- levels by one pass
+pub mod Rm3Levels  -- levels, told from the majority table
 -- the patterns
 mod Every  -- a test of every entry is a test of each
 pub mod PatternTable  -- the 27 patterns are what the words say

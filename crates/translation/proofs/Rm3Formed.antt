@@ -1,25 +1,21 @@
 -- The translation of a well-formed table: what stands in it for each node and output, and that it is a well-formed RM3 table.
-use Prim.Native.Nat.{ℕ, suc, _+_, _-_, _≤_, _<_}
-use mathlib.Core.Path.{_≡_, refl, _∙_}
+use Prim.Native.Nat.{ℕ, suc, _+_, _-_, _<_}
+use mathlib.Core.Path.{_≡_, _∙_}
 use mathlib.Core.List.{List, [], _∷_}
 use native.Mathlib.Omega.{arith}
 use lib.ListN.{length, getD, take, drop, length-append, length-drop}
 use lib.Seq.{length-take-le, getD-take, getD-drop, getD-append-add}
-use Rattle.majority.specs.Table.{blank, input, output, recordAt, WellFormed}
+use Rattle.majority.specs.Table.{blank, output, recordAt, WellFormed}
 use Rattle.translation.specs.Rm3.{WellFormed3}
-use Rattle.translation.specs.Translate.{nodes3, parts3, translation, operations}
+use Rattle.translation.specs.Translate.{nodes3, operandsOf, parts3, translation, operations}
 use Rattle.majority.specs.declared.Record.{Record}
 use Rattle.translation.proofs.Begins.{Begins, begins-same, begins-then, begins-append}
-use Rattle.translation.proofs.Rm3Place.{Origin, an-input, a-helper, a-gate}
+use Rattle.translation.proofs.Rm3Place.{Fits}
 use Rattle.translation.proofs.Rm3Nodes.{nodes-begin}
 use Rattle.translation.proofs.Rm3Stands.{Stands, Translated, nodes-translated}
 use Rattle.translation.proofs.Rm3Outputs.{Names, Written, outputs-begin, outputs-written}
 
--- the operand of each node in the translation of a table of n inputs and m gates
-unfoldable pub operandsOf : ℕ → ℕ → List Record → List ℕ
-operandsOf n m rs = nodes3 (0 ∷ []) [] (take (n + m) rs) .operands
-
--- its inputs and operations, without the helpers of the outputs
+-- the inputs and operations of the translation of a table of n inputs and m gates, without the helpers of the outputs
 unfoldable nodeTable : ℕ → ℕ → List Record → List Record
 nodeTable n m rs = nodes3 (0 ∷ []) [] (take (n + m) rs) .table
 
@@ -33,12 +29,10 @@ operations-first n m rs = begins-append (parts3 n m rs .table) (parts3 n m rs .o
 
 -- what the translation of a table has in it
 pub record Translation (n m o : ℕ) (rs : List Record) : Type 0 where
-  pub nodes : length (operandsOf n m rs) ≡ suc (n + m)
   pub constant : getD (operandsOf n m rs) 0 0 ≡ 0
   pub size : length (parts3 n m rs .table) ≡ n + operations n m rs
-  pub low : (k : ℕ) → k ≤ n + m → getD (operandsOf n m rs) k 0 < n + operations n m rs + 2
   pub stands : (j : ℕ) → j < n + m → Stands n (operandsOf n m rs) (translation n m rs) j (recordAt rs j)
-  pub origins : (j : ℕ) → j < n + operations n m rs → Origin n (operandsOf n m rs) j (recordAt (translation n m rs) j)
+  pub fits : (j : ℕ) → j < n + operations n m rs → Fits n j (recordAt (translation n m rs) j)
   pub written : length (parts3 n m rs .outputs) ≡ o
   pub outputs : (j : ℕ) → j < o
       → Names (operandsOf n m rs) (translation n m rs) (n + operations n m rs + 2) (recordAt rs (n + m + j) .e1) (recordAt (translation n m rs) (n + operations n m rs + j))
@@ -75,7 +69,7 @@ module _ {n m o : ℕ} {rs : List Record} (formed : WellFormed n m o rs) where
       outputs-written (translation n m rs) (drop (n + m) rs)
       (record { begins = begins-same _; low = all-nodes .low })
       (all-nodes .late (omega (arith, front)))
-      (all-nodes .origins)
+      (all-nodes .fits)
       (λ j h. rw (getD-drop (n + m) rs j blank) (omega (arith, nodes, back, formed .outputs (n + m + j) (omega arith) (omega (arith, back)) .1)))
       (operations-first n m rs)
 
@@ -92,12 +86,10 @@ module _ {n m o : ℕ} {rs : List Record} (formed : WellFormed n m o rs) where
       let table = parts3 n m rs .table in
       let outputs = parts3 n m rs .outputs in
       record {
-        nodes = nodes;
         constant = constant;
         size = size;
-        low = λ k h. omega (arith, all-outputs .known .low k (omega (arith, nodes)), size);
         stands = λ j h. rw (← node-at j h) (all-nodes .stands j (omega (arith, front)));
-        origins = λ j h. rw (operations-first n m rs .same j (omega (arith, size))) (all-outputs .origins .each j (omega (arith, size)));
+        fits = λ j h. rw (operations-first n m rs .same j (omega (arith, size))) (all-outputs .fits .each j (omega (arith, size)));
         written = written;
         outputs = λ j h. rw (← size, getD-append-add table outputs j blank, ← getD-drop (n + m) rs j blank) (all-outputs .outputs .each j (omega (arith, written)));
       }
@@ -109,21 +101,11 @@ module _ {n m o : ℕ} {rs : List Record} (formed : WellFormed n m o rs) where
   pub translated-formed : WellFormed3 n (operations n m rs) o (translation n m rs)
   translated-formed = record {
     whole = whole;
-    inputs = λ j h. input-at j h (translated .origins j (omega arith));
-    operations = λ j l h. operation-at j l (translated .origins j h);
+    inputs = λ j h. translated .fits j (omega arith) .an-input h;
+    operations = λ j l h. let w = translated .fits j h .an-operation l in (w .0, w .1 .first, w .1 .second, w .1 .third);
     outputs = λ j l h. output-at _ j (omega arith) (translated .outputs (j - (n + operations n m rs)) (omega arith));
   }
     where
-      input-at : (j : ℕ) {r : Record} → j < n → Origin n (operandsOf n m rs) j r → r ≡ input
-      input-at j h (an-input l is) = is
-      input-at j h (a-helper l k q low is) = absurd (omega arith)
-      input-at j h (a-gate l k q low kind reads) = absurd (omega arith)
-
-      operation-at : (j : ℕ) {r : Record} → n ≤ j → Origin n (operandsOf n m rs) j r → (r .kind ≡ 4) × (r .e1 < j + 2) × (r .e2 < j + 2) × (r .e3 < j + 2)
-      operation-at j h (an-input l is) = absurd (omega arith)
-      operation-at j h (a-helper l k q low is) = rw is (refl, omega arith, low, omega arith)
-      operation-at j h (a-gate l k q low kind reads) = (kind, reads .first, reads .second, reads .third)
-
       output-at : {e : ℕ} (i j : ℕ) → i ≡ j → Names (operandsOf n m rs) (translation n m rs) (n + operations n m rs + 2) e (recordAt (translation n m rs) i)
           → (recordAt (translation n m rs) j ≡ output (recordAt (translation n m rs) j .e1)) × (recordAt (translation n m rs) j .e1 < n + operations n m rs + 2)
       output-at i j same names = rw (← same) (names .is, names .low)

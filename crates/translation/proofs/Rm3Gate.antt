@@ -5,7 +5,7 @@ use mathlib.Core.Bool.{Bool, true, false}
 use mathlib.Core.List.{List, [], _∷_}
 use native.Mathlib.Omega.{arith}
 use lib.Dec.{eqb}
-use lib.ListN.{length, getD}
+use lib.ListN.{length}
 use Rattle.majority.specs.If.{if_then_else_}
 use Rattle.majority.specs.Table.{blank, recordAt, Below}
 use Rattle.translation.specs.Rm3.{operation}
@@ -13,7 +13,7 @@ use Rattle.translation.specs.Translate.{Placed, classOf, middle, place, 
 use Rattle.majority.specs.declared.Record.{Record}
 use Rattle.translation.proofs.Begins.{Begins, All, begins-then, begins-append, begins-last, all-more, length-more}
 use Rattle.translation.proofs.Rm3Worth.{Lower}
-use Rattle.translation.proofs.Rm3Place.{Serves, Origin, a-gate, Known, known-more, Placement, place-begins, placement}
+use Rattle.translation.proofs.Rm3Place.{Serves, Fits, operation-fits, Known, known-more, Placement, place-begins, placement}
 
 -- the middle place of a gate
 abbrev pub middleOf : Record → ℕ
@@ -82,13 +82,11 @@ module _ {n : ℕ} {final operands : List ℕ} {ts : List Record} (r : Record) (
   reads-lower =
       in-order-lower (middleOf r) _ _ _ _ (omega (arith, placed1 .low, placed2 .begins .longer, placed3 .begins .longer)) (omega (arith, placed2 .low, placed3 .begins .longer)) (placed3 .low)
 
-  -- its helpers are its edges' nodes', and its operation is that of the next node
-  pub gate-origins : length operands < length final → getD final (length operands) 0 ≡ length (gate3 operands r ts) + 1
-      → All blank (Origin n final) ts → All blank (Origin n final) (gate3 operands r ts)
+  pub gate-fits : All blank (Fits n) ts → All blank (Fits n) (gate3 operands r ts)
   unfolding gate3
-  gate-origins upto is all =
-      all-more (made operands r ts) (placed3 .origins (placed2 .origins (placed1 .origins all)))
-      (a-gate (omega (arith, both .longer, placed3 .begins .longer)) (length operands) upto (omega (arith, whole-length)) (reads-lower .0) (reads-lower .1))
+  gate-fits all =
+      all-more (made operands r ts) (placed3 .fits (placed2 .fits (placed1 .fits all)))
+      (operation-fits (omega (arith, both .longer, placed3 .begins .longer)) (reads-lower .0) (reads-lower .1))
 
   pub gate-made : (whole : List Record) → Begins blank (gate3 operands r ts) whole → Made final whole r (length (gate3 operands r ts) + 1)
   unfolding gate3

@@ -1,48 +1,95 @@
--- Levels in an RM3 table, as one pass works them out: an operation's from those that it reads, a bound, and the highest so far.
-use Prim.Native.Nat.{ℕ, zero, suc, _+_, _-_, _≤_, _<_, max}
-use mathlib.Core.Path.{_≡_}
+-- Levels of a translation, told from the majority table: of the operand that serves an edge, and so of each node's operand and of each output's.
+use Prim.Native.Nat.{ℕ, zero, suc, _+_, _-_, _≤_, _<_}
+use mathlib.Core.Path.{_≡_, refl, sym, _∙_}
+use mathlib.Core.Bool.{Bool, true, false, not}
 use mathlib.Core.List.{List}
 use native.Mathlib.Omega.{arith}
-use Rattle.majority.specs.Level.{levels, highest}
-use Rattle.translation.specs.Rm3.{byKind3, operandWorth, level3, WellFormed3}
+use borrow.Author.Tests.{eq-eqb, ne-eqb}
+use lib.Dec.{eqb}
+use lib.ListN.{length, getD}
+use Rattle.majority.specs.If.{if_then_else_}
+use Rattle.majority.specs.Edge.{nodeOf, isInverted}
+use Rattle.majority.specs.Table.{recordAt, WellFormed}
+use Rattle.majority.specs.Level.{above, levels}
+use Rattle.translation.specs.Rm3.{operation, level3, outputLevel3, WellFormed3}
+use Rattle.translation.specs.Translate.{constant, plain, inverted, classOf, inOrder, operandsOf, translation, operations}
+use Rattle.translation.specs.Count3.{helperCount}
+use Rattle.translation.specs.Level3.{operandLevel, edgeLevel, gateLevel}
 use Rattle.majority.specs.declared.Record.{Record}
-use Rattle.majority.proofs.Nodes.{node-induction}
-use Rattle.majority.proofs.Levels.{above-least, depth-more}
-use Rattle.translation.proofs.Rm3Worth.{Lower, false-worth, true-worth, reads-lower3, formed3-eq}
+use Rattle.majority.proofs.Levels.{above-first-second, above-second-third}
+use Rattle.translation.proofs.Rm3Worth.{false-worth, true-worth, input3-eq, operation-worth}
+use Rattle.translation.proofs.Rm3Place.{Serves, itself, direct, helped}
+use Rattle.translation.proofs.Rm3Gate.{Made, middleOf}
+use Rattle.translation.proofs.Rm3Formed.{translated, translated-formed}
 
-by-kind3-most : (k i p o d l : ℕ) → i ≤ l → p ≤ l → o ≤ l → d ≤ l → byKind3 k i p o d ≤ l
-by-kind3-most zero i p o d l a b c e = e
-by-kind3-most (suc zero) i p o d l a b c e = a
-by-kind3-most (suc (suc zero)) i p o d l a b c e = e
-by-kind3-most (suc (suc (suc zero))) i p o d l a b c e = c
-by-kind3-most (suc (suc (suc (suc k)))) i p o d l a b c e = b
+-- an edge whose inversion its place makes, and one that gets a helper
+no-helper : (t : Bool) (e : ℕ) → isInverted e ≡ t → helperCount t (classOf e) ≡ 0
+unfolding classOf
+no-helper t e h = go (eqb (nodeOf e) 0) t h
+  where
+    go : (c t : Bool) → isInverted e ≡ t → helperCount t (if c then constant else if isInverted e then inverted else plain) ≡ 0
+    go true t h = refl
+    go false true h = rw h
+    go false false h = rw h
 
-module _ {n p o : ℕ} {ts : List Record} (formed : WellFormed3 n p o ts) where
-  -- an operand's level is at most its number
-  pub level3-at-most : (k : ℕ) → k ≤ n + p + o + 1 → level3 ts k ≤ k
-  unfolding operandWorth
-  level3-at-most = node-induction (λ k. level3 ts k ≤ k) (n + p + o + 1) (rw (false-worth levels ts) (omega arith)) step
+one-helper : (t : Bool) (e : ℕ) → (nodeOf e ≡ 0 → ⊥) → isInverted e ≡ not t → helperCount t (classOf e) ≡ 1
+unfolding classOf
+one-helper true e some h = rw (ne-eqb (nodeOf e) 0 some, h)
+one-helper false e some h = rw (ne-eqb (nodeOf e) 0 some, h)
+
+module _ {n p o : ℕ} {ts : List Record} (formed : WellFormed3 n p o ts) (operands : List ℕ) (first : getD operands 0 0 ≡ 0) where
+  abbrev f : ℕ → ℕ
+  f = level3 ts
+
+  -- the level of the operand of node k
+  abbrev v : ℕ → ℕ
+  v k = f (getD operands k 0)
+
+  constant-level : (x : ℕ) → x ≤ 1 → f x ≡ 0
+  constant-level zero h = false-worth levels ts
+  constant-level (suc zero) h = true-worth levels ts
+  constant-level (suc (suc x)) h = absurd (omega arith)
+
+  helper-level : (x : ℕ) → above (f 0) x (f 1) ≡ x + 1
+  unfolding above
+  helper-level x = rw (constant-level 0 (omega arith), constant-level 1 (omega arith)) (omega arith)
+
+  serves-level : (t : Bool) (e x : ℕ) → Serves operands ts t e x → f x ≡ edgeLevel v t e
+  unfolding classOf
+  serves-level t e x (itself h) = constant-level _ (opposite t) ∙ sym (rw (eq-eqb (nodeOf e) 0 h, h, first) (omega (arith, constant-level 0 (omega arith))))
     where
-      at-record : (j : ℕ) (r : Record) → Lower (j + 2) r → ((k : ℕ) → k ≤ j + 1 → level3 ts k ≤ k) → operandWorth levels (level3 ts) (j + 2) r ≤ j + 2
-      at-record j r low below =
-          let l1 = below (r .e1) (omega (arith, low .first)) in
-          let l2 = below (r .e2) (omega (arith, low .second)) in
-          let l3 = below (r .e3) (omega (arith, low .third)) in
-          by-kind3-most (r .kind) _ _ _ _ _ (omega arith)
-          (above-least _ _ _ _ (omega (arith, low .first)) (omega (arith, low .second)) (omega (arith, low .third)))
-          (omega (arith, low .first)) (omega arith)
+      opposite : (u : Bool) → (if u then 1 - e else e) ≤ 1
+      opposite true = omega arith
+      opposite false = omega arith
+  serves-level t e x (direct h) = omega (arith, no-helper t e h)
+  serves-level t e x (helped some h i l is) = operation-worth formed levels i 0 (getD operands (nodeOf e) 0) 1 l is ∙ helper-level (v (nodeOf e)) ∙ omega (arith, one-helper t e some h)
 
-      step : (j : ℕ) → j < n + p + o + 1 → ((k : ℕ) → k ≤ j → level3 ts k ≤ k) → level3 ts (suc j) ≤ suc j
-      step zero h below = rw (true-worth levels ts) (omega arith)
-      step (suc j) h below =
-          let e : suc (suc j) ≡ j + 2 = omega arith in
-          rw (e, formed3-eq formed levels j (omega arith)) (at-record j _ (reads-lower3 formed j (omega (arith, formed .whole))) (λ k l. below k (omega arith)))
+  -- whichever place is the middle
+  in-order-level : (mid j x y z : ℕ) → j < length ts → recordAt ts j ≡ inOrder mid x y z → f (j + 2) ≡ above (f x) (f y) (f z)
+  in-order-level mid j x y z h = go (eqb mid 1) (eqb mid 2)
+    where
+      go : (t u : Bool) → recordAt ts j ≡ (if t then operation y x z else if u then operation x y z else operation x z y) → f (j + 2) ≡ above (f x) (f y) (f z)
+      go true u is = operation-worth formed levels j y x z h is ∙ above-first-second (f x) (f y) (f z)
+      go false true is = operation-worth formed levels j x y z h is
+      go false false is = operation-worth formed levels j x z y h is ∙ above-second-third (f x) (f y) (f z)
 
--- the highest so far, of the operations after n inputs, with that of operand i + 2
-pub depth3-more : (f : ℕ → ℕ) (n i d l d′ : ℕ) → n ≤ i → d ≡ highest f (n + 2) (i - n) → l ≡ f (i + 2) → d′ ≡ max d l → d′ ≡ highest f (n + 2) (i + 1 - n)
-depth3-more f n i d l d′ h p q r =
-    let first : n + 1 + 1 ≡ n + 2 = omega arith in
-    let so-far : i + 1 - (n + 1) ≡ i - n = omega arith in
-    let one-more : i + 1 + 1 - (n + 1) ≡ i + 1 - n = omega arith in
-    let this : i + 1 + 1 ≡ i + 2 = omega arith in
-    rw (first, one-more) at (depth-more f (n + 1) (i + 1) d l d′ (omega arith) (rw (first, so-far) p) (rw this q) r)
+  made-level : (r : Record) (x : ℕ) → Made operands ts r x → f x ≡ gateLevel v r
+  unfolding gateLevel
+  made-level r x made =
+      rw (made .numbered, ← serves-level _ _ _ (made .first), ← serves-level _ _ _ (made .second), ← serves-level _ _ _ (made .third))
+      (in-order-level (middleOf r) (made .at) _ _ _ (made .inside) (made .is))
+
+module _ {n m o : ℕ} {rs : List Record} (formed : WellFormed n m o rs) where
+  -- the operand of the constant and of an input stands at 0, that of a gate is its operation
+  pub early-level : (k : ℕ) → k ≤ n → operandLevel n m rs k ≡ 0
+  unfolding operandLevel
+  early-level zero h = rw (translated formed .constant) (false-worth levels (translation n m rs))
+  early-level (suc j) h = rw (translated formed .stands j (omega arith) .an-input h) (input3-eq (translated-formed formed) levels j h)
+
+  pub gate-level : (j : ℕ) → n ≤ j → j < n + m → operandLevel n m rs (suc j) ≡ gateLevel (operandLevel n m rs) (recordAt rs j)
+  unfolding operandLevel
+  gate-level j p q = made-level (translated-formed formed) (operandsOf n m rs) (translated formed .constant) (recordAt rs j) _ (translated formed .stands j q .a-gate p)
+
+  pub output-level : (j : ℕ) → j < o → outputLevel3 n (operations n m rs) (translation n m rs) j ≡ edgeLevel (operandLevel n m rs) false (recordAt rs (n + m + j) .e1)
+  unfolding operandLevel outputLevel3
+  output-level j h = serves-level (translated-formed formed) (operandsOf n m rs) (translated formed .constant) false _ _ (translated formed .outputs j h .serves)

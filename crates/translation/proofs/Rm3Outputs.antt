@@ -10,7 +10,7 @@ use Rattle.majority.specs.Table.{blank, output, recordAt}
 use Rattle.translation.specs.Translate.{place, outputs3}
 use Rattle.majority.specs.declared.Record.{Record}
 use Rattle.translation.proofs.Begins.{Begins, All, begins-same, begins-then, all-more, length-more}
-use Rattle.translation.proofs.Rm3Place.{Serves, Origin, Known, known-more, Placement, place-begins, placement}
+use Rattle.translation.proofs.Rm3Place.{Serves, Fits, Known, known-more, Placement, place-begins, placement}
 
 -- operations are only put at the end
 pub outputs-begin : (operands : List ℕ) (ts os rs : List Record) → Begins blank ts (outputs3 operands ts os rs .table)
@@ -39,15 +39,15 @@ pub record Written (n : ℕ) (operands : List ℕ) (table whole rs : List Record
   pub count : length os ≡ j
   pub known : Known operands operands ts
   pub late : n ≤ length ts
-  pub origins : All blank (Origin n operands) ts
+  pub fits : All blank (Fits n) ts
   pub outputs : All blank (λ i r. Names operands whole (length table + 2) (recordAt rs i .e1) r) os
 
 pub outputs-written : {n : ℕ} {operands : List ℕ} {ts : List Record} (whole rs : List Record)
-    → Known operands operands ts → n ≤ length ts → All blank (Origin n operands) ts → ((j : ℕ) → j < length rs → nodeOf (recordAt rs j .e1) < length operands)
+    → Known operands operands ts → n ≤ length ts → All blank (Fits n) ts → ((j : ℕ) → j < length rs → nodeOf (recordAt rs j .e1) < length operands)
     → let done = outputs3 operands ts [] rs in Begins blank (done .table) whole → Written n operands (done .table) whole rs (length rs) (done .table) (done .outputs)
-outputs-written {n} {operands} {ts} whole rs known late origins named b =
+outputs-written {n} {operands} {ts} whole rs known late fits named b =
     outputs-induction (Written n operands table whole rs) operands table rs step ts [] (begins-same table)
-    (record { count = refl; known = known; late = late; origins = origins; outputs = record { each = λ i h. absurd (omega arith) } })
+    (record { count = refl; known = known; late = late; fits = fits; outputs = record { each = λ i h. absurd (omega arith) } })
   where
     table : List Record
     table = outputs3 operands ts [] rs .table
@@ -66,6 +66,6 @@ outputs-written {n} {operands} {ts} whole rs known late origins named b =
           count = omega (arith, length-more os (output (p .operand)), so .count);
           known = known-more (placed .begins) (so .known);
           late = omega (arith, so .late, placed .begins .longer);
-          origins = placed .origins (so .origins);
+          fits = placed .fits (so .fits);
           outputs = all-more (output (p .operand)) (so .outputs) (rw (so .count) this);
         }

@@ -1,4 +1,4 @@
--- The operand that an edge gets, and what it leaves in the RM3 table: each record's origin, and how an operand serves its edge.
+-- The operand that an edge gets, and what it leaves in the RM3 table: records in their form, and an operand that serves the edge.
 use Prim.Native.Nat.{ℕ, _+_, _-_, _≤_, _<_}
 use mathlib.Core.Path.{_≡_, refl, _∙_}
 use mathlib.Core.Bool.{Bool, true, false, not}
@@ -20,13 +20,15 @@ use Rattle.translation.proofs.Rm3Worth.{Lower}
 pub data Serves (operands : List ℕ) (ts : List Record) (isMiddle : Bool) (e : ℕ) : ℕ → Type 0 where
   itself : nodeOf e ≡ 0 → Serves operands ts isMiddle e (if isMiddle then 1 - e else e)
   direct : isInverted e ≡ isMiddle → Serves operands ts isMiddle e (getD operands (nodeOf e) 0)
-  helped : isInverted e ≡ not isMiddle → (i : ℕ) → i < length ts → recordAt ts i ≡ operation 0 (getD operands (nodeOf e) 0) 1 → Serves operands ts isMiddle e (i + 2)
+  helped : (nodeOf e ≡ 0 → ⊥) → isInverted e ≡ not isMiddle → (i : ℕ) → i < length ts → recordAt ts i ≡ operation 0 (getD operands (nodeOf e) 0) 1 → Serves operands ts isMiddle e (i + 2)
 
--- where record j of the inputs and operations comes from: an input, a node that has it for a helper, or the gate whose operation it is
-pub data Origin (n : ℕ) (operands : List ℕ) (j : ℕ) (r : Record) : Type 0 where
-  an-input : j < n → r ≡ input → Origin n operands j r
-  a-helper : n ≤ j → (k : ℕ) → k < length operands → getD operands k 0 < j + 2 → r ≡ operation 0 (getD operands k 0) 1 → Origin n operands j r
-  a-gate : n ≤ j → (k : ℕ) → k < length operands → getD operands k 0 ≡ j + 2 → r .kind ≡ 4 → Lower (j + 2) r → Origin n operands j r
+-- among n inputs, r is what record j of the inputs and operations has to be
+pub record Fits (n j : ℕ) (r : Record) : Type 0 where
+  pub an-input : j < n → r ≡ input
+  pub an-operation : n ≤ j → (r .kind ≡ 4) × Lower (j + 2) r
+
+pub operation-fits : {n j : ℕ} {r : Record} → n ≤ j → r .kind ≡ 4 → Lower (j + 2) r → Fits n j r
+operation-fits late kind reads = record { an-input = λ h. absurd (omega arith); an-operation = λ h. (kind, reads) }
 
 -- the first of the nodes' final operands are known, and stand in the table so far
 pub record Known (final operands : List ℕ) (ts : List Record) : Type 0 where
@@ -41,7 +43,7 @@ module _ (operands : List ℕ) (e : ℕ) (ts : List Record) where
   data Way (isMiddle : Bool) : Placed → Type 0 where
     itself : nodeOf e ≡ 0 → Way isMiddle (record { operand = if isMiddle then 1 - e else e; table = ts })
     direct : isInverted e ≡ isMiddle → Way isMiddle (record { operand = getD operands (nodeOf e) 0; table = ts })
-    helped : isInverted e ≡ not isMiddle → Way isMiddle (record { operand = length ts + 2; table = ts ++ operation 0 (getD operands (nodeOf e) 0) 1 ∷ [] })
+    helped : (nodeOf e ≡ 0 → ⊥) → isInverted e ≡ not isMiddle → Way isMiddle (record { operand = length ts + 2; table = ts ++ operation 0 (getD operands (nodeOf e) 0) 1 ∷ [] })
 
   way : (isMiddle : Bool) → Way isMiddle (place isMiddle operands e ts)
   unfolding place classOf
@@ -49,8 +51,8 @@ module _ (operands : List ℕ) (e : ℕ) (ts : List Record) where
     where
       by-inversion : (m t : Bool) → isInverted e ≡ t → (nodeOf e ≡ 0 → ⊥) → Way m (place m operands e ts)
       by-inversion true true p h = rw (ne-eqb (nodeOf e) 0 h, p) (direct p)
-      by-inversion true false p h = rw (ne-eqb (nodeOf e) 0 h, p) (helped p)
-      by-inversion false true p h = rw (ne-eqb (nodeOf e) 0 h, p) (helped p)
+      by-inversion true false p h = rw (ne-eqb (nodeOf e) 0 h, p) (helped h p)
+      by-inversion false true p h = rw (ne-eqb (nodeOf e) 0 h, p) (helped h p)
       by-inversion false false p h = rw (ne-eqb (nodeOf e) 0 h, p) (direct p)
 
       go : Dec (nodeOf e ≡ 0) → Way isMiddle (place isMiddle operands e ts)
@@ -63,13 +65,13 @@ module _ (operands : List ℕ) (e : ℕ) (ts : List Record) where
       go : (p : Placed) → Way isMiddle p → Begins blank ts (p .table)
       go _ (itself h) = begins-same ts
       go _ (direct h) = begins-same ts
-      go _ (helped h) = begins-append ts _
+      go _ (helped some h) = begins-append ts _
 
 -- what is known of an edge's operand and of the table with the helper that it may need
 pub record Placement (n : ℕ) (final : List ℕ) (isMiddle : Bool) (e : ℕ) (ts : List Record) (p : Placed) : Type 0 where
   pub begins : Begins blank ts (p .table)
   pub low : p .operand < length (p .table) + 2
-  pub origins : All blank (Origin n final) ts → All blank (Origin n final) (p .table)
+  pub fits : All blank (Fits n) ts → All blank (Fits n) (p .table)
   pub serves : (whole : List Record) → Begins blank (p .table) whole → Serves final whole isMiddle e (p .operand)
 
 pub placement : {n : ℕ} {final operands : List ℕ} {ts : List Record} (isMiddle : Bool) (e : ℕ) → Known final operands ts → n ≤ length ts → nodeOf e < length operands
@@ -87,11 +89,11 @@ placement {n} {final} {operands} {ts} isMiddle e known late named = go _ (way op
     constant-low false h = omega arith
 
     go : (p : Placed) → Way operands e ts isMiddle p → Placement n final isMiddle e ts p
-    go _ (itself h) = record { begins = begins-same ts; low = constant-low isMiddle h; origins = λ all. all; serves = λ whole b. itself h }
-    go _ (direct h) = record { begins = begins-same ts; low = rw (← same) low; origins = λ all. all; serves = λ whole b. rw (← same) (direct h) }
-    go _ (helped h) = record {
+    go _ (itself h) = record { begins = begins-same ts; low = constant-low isMiddle h; fits = λ all. all; serves = λ whole b. itself h }
+    go _ (direct h) = record { begins = begins-same ts; low = rw (← same) low; fits = λ all. all; serves = λ whole b. rw (← same) (direct h) }
+    go _ (helped some h) = record {
       begins = begins-append ts _;
       low = omega (arith, length-more ts (operation 0 (getD operands (nodeOf e) 0) 1));
-      origins = λ all. all-more _ all (a-helper late (nodeOf e) (omega (arith, known .begins .longer)) low (rw same));
-      serves = λ whole b. helped h (length ts) (omega (arith, b .longer, length-more ts (operation 0 (getD operands (nodeOf e) 0) 1))) (begins-last ts _ b ∙ rw same);
+      fits = λ all. all-more _ all (operation-fits late refl (record { first = omega arith; second = rw (← same) low; third = omega arith }));
+      serves = λ whole b. helped some h (length ts) (omega (arith, b .longer, length-more ts (operation 0 (getD operands (nodeOf e) 0) 1))) (begins-last ts _ b ∙ rw same);
     }

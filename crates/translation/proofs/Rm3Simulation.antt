@@ -12,14 +12,14 @@ use Rattle.majority.specs.Edge.{nodeOf, isInverted}
 use Rattle.majority.specs.Table.{recordAt, WellFormed}
 use Rattle.majority.specs.Node.{Meaning, edgeWorth, worth}
 use Rattle.translation.specs.Rm3.{operation, worth3, WellFormed3}
-use Rattle.translation.specs.Translate.{Class, isConstant, isInvertedClass, middle, inOrder, translation, operations}
+use Rattle.translation.specs.Translate.{Class, isConstant, isInvertedClass, middle, inOrder, operandsOf, translation, operations}
 use Rattle.majority.specs.declared.Record.{Record}
 use Rattle.majority.proofs.Nodes.{node-induction, node-zero}
 use Rattle.majority.proofs.Formed.{input-eq, gate-eq}
 use Rattle.translation.proofs.Rm3Worth.{false-worth, true-worth, input3-eq, operation-worth}
 use Rattle.translation.proofs.Rm3Place.{Serves, itself, direct, helped}
 use Rattle.translation.proofs.Rm3Gate.{Made, middleOf}
-use Rattle.translation.proofs.Rm3Formed.{operandsOf, Translation, translated, translated-formed}
+use Rattle.translation.proofs.Rm3Formed.{Translation, translated, translated-formed}
 
 -- N relates what a node and its operand are worth, E what an edge and an operation's place for it are worth; the operation inverts its middle place
 pub record Simulates {A : Type 0} (𝓜 : Meaning A) (N E : A → A → Type 0) : Type 0 where
@@ -77,7 +77,7 @@ module _ {A : Type 0} (𝓜 : Meaning A) (N E : A → A → Type 0) (𝓢 : Simu
   pub served : (isMiddle : Bool) (e x : ℕ) → Serves operands ts isMiddle e x → Simulated e → E (edgeWorth 𝓜 v e) (inPlace isMiddle x)
   served isMiddle e x (itself h) q = rw (constant-served e isMiddle h) (𝓢 .edges _ _ (𝓢 .same _))
   served isMiddle e x (direct h) q = direct-served e isMiddle h q
-  served isMiddle e x (helped h i l is) q = helper-served e i isMiddle h l is q
+  served isMiddle e x (helped some h i l is) q = helper-served e i isMiddle h l is q
 
   -- the operation, whichever of its places is the middle
   in-order : (r : Record) (i x y z : ℕ) (a b c : A) → i < length ts → recordAt ts i ≡ inOrder (middleOf r) x y z

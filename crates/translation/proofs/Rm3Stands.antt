@@ -10,8 +10,8 @@ use Rattle.translation.specs.Translate.{after, gate3, nodes3}
 use Rattle.majority.specs.declared.Record.{Record}
 use Rattle.translation.proofs.Begins.{Begins, All, begins-then, begins-append, begins-last, all-more, length-more}
 use Rattle.majority.proofs.Formed.{kind-two}
-use Rattle.translation.proofs.Rm3Place.{Origin, an-input, Known}
-use Rattle.translation.proofs.Rm3Gate.{Made, gate-begins, gate-origins, gate-made}
+use Rattle.translation.proofs.Rm3Place.{Fits, Known}
+use Rattle.translation.proofs.Rm3Gate.{Made, gate-begins, gate-fits, gate-made}
 use Rattle.translation.proofs.Rm3Nodes.{named, nodes-begin, nodes-induction}
 
 -- what stands for record j, of n inputs and then gates: input j is operand j + 2, and a gate is its operation
@@ -25,7 +25,7 @@ pub record Translated (n : ℕ) (final : List ℕ) (whole rs : List Record) (j :
   pub low : (k : ℕ) → k < length operands → getD final k 0 < length ts + 2
   pub inputs : j ≤ n → length ts ≡ j
   pub late : n ≤ j → n ≤ length ts
-  pub origins : All blank (Origin n final) ts
+  pub fits : All blank (Fits n) ts
   pub stands : (i : ℕ) → i < j → Stands n final whole i (recordAt rs i)
 
 module _ (n : ℕ) (final : List ℕ) (whole rs : List Record)
@@ -33,14 +33,14 @@ module _ (n : ℕ) (final : List ℕ) (whole rs : List Record)
     (gates : (j : ℕ) → n ≤ j → j < length rs → (recordAt rs j .kind ≡ 2) × Below (suc j) (recordAt rs j)) where
   -- one record more
   more : (j : ℕ) (operands : List ℕ) (ts next : List Record) → Translated n final whole rs j operands ts → Begins blank ts next → Begins 0 (named operands next) final
-      → (suc j ≤ n → length next ≡ suc j) → (n ≤ suc j → n ≤ length next) → All blank (Origin n final) next → Stands n final whole j (recordAt rs j)
+      → (suc j ≤ n → length next ≡ suc j) → (n ≤ suc j → n ≤ length next) → All blank (Fits n) next → Stands n final whole j (recordAt rs j)
       → Translated n final whole rs (suc j) (named operands next) next
   more j operands ts next so b c early late all this = record {
     count = omega (arith, length-more operands (length next + 1), so .count);
     low = λ k h. low k h (decLt k (length operands));
     inputs = early;
     late = late;
-    origins = all;
+    fits = all;
     stands = λ i h. stands i h (decLt i j);
   }
     where
@@ -65,7 +65,7 @@ module _ (n : ℕ) (final : List ℕ) (whole rs : List Record)
       let size : length ts ≡ j = so .inputs (omega arith) in
       let grown : length (ts ++ input ∷ []) ≡ suc j = rw (length-more ts input, size) in
       more j operands ts (ts ++ input ∷ []) so (begins-append ts (input ∷ [])) c (λ l. grown) (λ l. omega arith)
-      (all-more input (so .origins) (an-input (omega arith) refl))
+      (all-more input (so .fits) (record { an-input = λ q. refl; an-operation = λ q. absurd (omega arith) }))
       (record { an-input = λ l. next-operand j operands ts (ts ++ input ∷ []) so c ∙ rw grown (omega arith); a-gate = λ l. absurd (omega arith) })
 
   gate-more : (j : ℕ) (operands : List ℕ) (ts : List Record) → n ≤ j → j < length rs → Translated n final whole rs j operands ts
@@ -80,7 +80,7 @@ module _ (n : ℕ) (final : List ℕ) (whole rs : List Record)
       let is = next-operand j operands ts next so c in
       let late = so .late l in
       more j operands ts next so b c (λ q. absurd (omega arith)) (λ q. omega (arith, b .longer))
-      (gate-origins r known late reads (omega (arith, c .longer, length-more operands (length next + 1))) (rw (so .count) is) (so .origins))
+      (gate-fits r known late reads (so .fits))
       (record { an-input = λ q. absurd (omega arith); a-gate = λ q. rw is (gate-made r known late reads whole w) })
 
   -- record j, as `after` has it
@@ -107,6 +107,6 @@ module _ (n : ℕ) (final : List ℕ) (whole rs : List Record)
         low = λ k h. let e : k ≡ 0 = omega arith in rw (e, first) (omega arith);
         inputs = λ h. refl;
         late = λ h. h;
-        origins = record { each = λ i h. absurd (omega arith) };
+        fits = record { each = λ i h. absurd (omega arith) };
         stands = λ i h. absurd (omega arith);
       })

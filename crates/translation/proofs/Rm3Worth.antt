@@ -46,7 +46,7 @@ output-lower b r is h = record { first = h; second = rw is (omega arith); third 
 
 module _ {n p o : ℕ} {ts : List Record} (formed : WellFormed3 n p o ts) where
   -- record j reads operands below its own number
-  pub reads-lower3 : (j : ℕ) → j < length ts → Lower (j + 2) (recordAt ts j)
+  reads-lower3 : (j : ℕ) → j < length ts → Lower (j + 2) (recordAt ts j)
   reads-lower3 j h = go (decLt j n) (decLt j (n + p))
     where
       go : Dec (j < n) → Dec (j < n + p) → Lower (j + 2) (recordAt ts j)
@@ -55,7 +55,7 @@ module _ {n p o : ℕ} {ts : List Record} (formed : WellFormed3 n p o ts) where
       go (no l) (no q) = let w = formed .outputs j (omega arith) (omega (arith, formed .whole)) in output-lower _ _ (w .0) (omega (arith, w .1))
 
   -- what record j is worth
-  pub formed3-eq : {A : Type 0} (𝓜 : Meaning A) (j : ℕ) → j < n + p + o → worth3 𝓜 ts (j + 2) ≡ operandWorth 𝓜 (worth3 𝓜 ts) (j + 2) (recordAt ts j)
+  formed3-eq : {A : Type 0} (𝓜 : Meaning A) (j : ℕ) → j < n + p + o → worth3 𝓜 ts (j + 2) ≡ operandWorth 𝓜 (worth3 𝓜 ts) (j + 2) (recordAt ts j)
   formed3-eq 𝓜 j h = operand-eq 𝓜 ts reads-lower3 j (omega (arith, formed .whole))
 
   pub input3-eq : {A : Type 0} (𝓜 : Meaning A) (j : ℕ) → j < n → worth3 𝓜 ts (j + 2) ≡ 𝓜 .input (j + 1)

@@ -43,9 +43,13 @@ level3 = worth3 levels
 unfoldable pub outputValue3 : ℕ → ℕ → ℕ → List Record → ℕ → Bool
 outputValue3 a n p ts j = value3 a ts (recordAt ts (n + p + j) .e1)
 
--- the highest level of any operation, of a table of n inputs and p operations
-unfoldable pub depth3 : ℕ → ℕ → List Record → ℕ
-depth3 n p ts = highest (level3 ts) (n + 2) p
+-- the level of the operand that output j names
+unfoldable pub outputLevel3 : ℕ → ℕ → List Record → ℕ → ℕ
+outputLevel3 n p ts j = level3 ts (recordAt ts (n + p + j) .e1)
+
+-- the highest level among the operands that outputs name, in a table of n inputs, p operations and o outputs; other operations do not count
+unfoldable pub depth3 : ℕ → ℕ → ℕ → List Record → ℕ
+depth3 n p o ts = highest (outputLevel3 n p ts) o
 
 -- a well-formed RM3 table of n inputs, p operations and o outputs: an operation reads only operands lower than itself, and an output names any operand
 pub record WellFormed3 (n p o : ℕ) (ts : List Record) : Type 0 where

@@ -85,6 +85,10 @@ nodes3 operands ts (r ∷ rs) =
     let next = after operands ts r in
     nodes3 (operands ++ (length next + 1) ∷ []) next rs
 
+-- the operand of each node of a table of n inputs and m gates
+unfoldable pub operandsOf : ℕ → ℕ → List Record → List ℕ
+operandsOf n m rs = nodes3 (0 ∷ []) [] (take (n + m) rs) .operands
+
 -- inputs and operations with the helpers of the outputs, and the outputs' records
 pub record Outputs3 : Type 0 where
   pub table : List Record

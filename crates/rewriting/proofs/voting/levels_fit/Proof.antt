@@ -28,7 +28,7 @@ array-read-result-2 c = let pre = c .before .before .before .pre in
 returns : tie.Need-returns
 returns c = let pre = c .before .before .before .pre in
     let holds = levels-upto (pre .0) (fresh 0) (c .before .before .before .args .b) (pre .2) in
-    rw (c .set-levels .ensures .1, holds .worths (c .before .before .before .args .a) (omega (arith, pre .1)), holds .worths (c .before .before .before .args .b) (omega arith))
+    rw (c .set-levels .ensures, holds .worths (c .before .before .before .args .a) (omega (arith, pre .1)), holds .worths (c .before .before .before .args .b) (omega arith))
 
 pub levels-fit-spec : {M : Type 1} → statement M
 levels-fit-spec =

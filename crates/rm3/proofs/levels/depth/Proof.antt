@@ -7,11 +7,11 @@ use Rattle.rm3.proofs.levels.depth.Tie as tie
 set-levels-requires : tie.Need-set-levels-requires
 set-levels-requires c κs = (c .before .before .pre, fresh 0)
 
-with-outputs-requires : tie.Need-with-outputs-requires
-with-outputs-requires c κs = search needs
+output-depth-requires : tie.Need-output-depth-requires
+output-depth-requires c κs = search needs
 
 returns : tie.Need-returns
 returns c = search needs
 
 pub depth-spec : {M : Type 1} → statement M
-depth-spec = tie.close (tie.spec set-levels-requires with-outputs-requires returns)
+depth-spec = tie.close (tie.spec set-levels-requires output-depth-requires returns)

@@ -5,7 +5,8 @@ use native.Mathlib.Omega.{arith}
 use borrow.Author.Needs.{needs}
 use Rattle.majority.proofs.Levels.{above-by}
 use Rattle.translation.specs.Patterns.{patternBy}
-use Rattle.rm3.specs.inner.Levelled.{gateLevel}
+use Rattle.translation.specs.Level3.{gateLevel}
+use Rattle.rm3.specs.inner.Levelled.{levelIn}
 use Rattle.rm3.proofs.LevelPass.{edges-below}
 use Rattle.rm3.proofs.levels.gate_level.Statement.{statement}
 use Rattle.rm3.proofs.levels.gate_level.Tie as tie
@@ -43,7 +44,7 @@ returns c = let t = c .before .before in
 
 add-result : tie.Need-add-result
 add-result c = let start = c .before .before .before .before .before .before in
-    let small : gateLevel (start .args .levels .now) (start .args .gate) ≤ 4000 = start .pre .1 in
+    let small : gateLevel (levelIn (start .args .levels .now)) (start .args .gate) ≤ 4000 = start .pre .1 in
     omega (arith, returns c)
 
 pub gate-level-spec : {M : Type 1} → statement M

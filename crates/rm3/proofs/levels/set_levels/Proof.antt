@@ -1,4 +1,4 @@
--- `levels::set_levels` meets its contract: the levels of the nodes so far are set, and the depth so far is the highest of the operations so far.
+-- `levels::set_levels` meets its contract: the levels of the nodes so far are set.
 use mathlib.Core.Path.{_≡_, ap, _∙_, subst}
 use Prim.Native.Nat.{ℕ, _+_, _-_, _≤_}
 use native.Mathlib.Omega.{arith}
@@ -6,16 +6,17 @@ use borrow.Author.Needs.{needs}
 use Rattle.majority.proofs.Formed.{below-more, reads-lower}
 use Rattle.tables.specs.Sound.{tableIn}
 use Rattle.tables.proofs.Sound.{sound-accepted, sound-formed, read-record}
-use Rattle.rm3.specs.inner.Levelled.{gateLevel, Levelled}
+use Rattle.translation.specs.Level3.{gateLevel}
+use Rattle.rm3.specs.inner.Levelled.{levelIn, Levelled}
 use Rattle.rm3.proofs.LevelPass.{levelled-start, level-small, levelled-more}
 use Rattle.rm3.proofs.levels.set_levels.Statement.{statement}
 use Rattle.rm3.proofs.levels.set_levels.Tie as tie
 
 abbrev Inv-loop : tie.InvT-loop
-Inv-loop levels₀ s counts depth₀ i₀ levels depth i = (counts .inputs ≤ i) × (i ≤ counts .inputs + counts .gates) × Levelled counts (tableIn s counts) i depth levels
+Inv-loop levels₀ s counts i₀ levels i = (counts .inputs ≤ i) × (i ≤ counts .inputs + counts .gates) × Levelled counts (tableIn s counts) i levels
 
 abbrev μ-loop : tie.MeasureT-loop
-μ-loop levels₀ s counts depth₀ i₀ levels depth i = counts .inputs + counts .gates - i
+μ-loop levels₀ s counts i₀ levels i = counts .inputs + counts .gates - i
 
 loop-holds : tie.Need-loop-holds Inv-loop μ-loop
 loop-holds c = let pre = c .before .pre in
@@ -46,9 +47,6 @@ element-write-levels : tie.Need-element-write-levels Inv-loop μ-loop
 element-write-levels c = let limits = sound-accepted (c .before .before .before .before .before .before .before .pre .0) .limits in
     omega arith
 
-higher-requires : tie.Need-higher-requires Inv-loop μ-loop
-higher-requires c κs = search needs
-
 add-i : tie.Need-add-i Inv-loop μ-loop
 add-i c = search needs
 
@@ -56,17 +54,16 @@ loop-less : tie.Need-loop-less Inv-loop μ-loop
 loop-less c = search needs
 
 loop-again : tie.Need-loop-again Inv-loop μ-loop
-loop-again c = let g = c .before in
-    let l = g .before .before .before .before .before in
+loop-again c = let l = c .before .before .before .before .before in
     let sound = l .before .before .pre .0 in
-    let level = g .gate-level .ensures ∙ ap (gateLevel (l .loop .levels)) (g .before .record-at .ensures ∙ read-record sound (l .loop .i) (omega arith)) in
-    (search needs, search needs, levelled-more sound (l .loop .inv .0) (g .before .before .before .if1 .taken) (l .loop .inv .2) _ _ level (c .higher .ensures))
+    let level = c .gate-level .ensures ∙ ap (gateLevel (levelIn (l .loop .levels))) (c .before .record-at .ensures ∙ read-record sound (l .loop .i) (omega arith)) in
+    (search needs, search needs, levelled-more sound (l .loop .inv .0) (c .before .before .before .if1 .taken) (l .loop .inv .2) _ level)
 
 returns : tie.Need-returns Inv-loop μ-loop
 returns c = let l = c .before .before in
     let a = l .before .before .args in
     let all : l .loop .i ≡ a .counts .inputs + a .counts .gates = omega arith in
-    subst (λ (k : ℕ). Levelled (a .counts) (tableIn (a .s .now) (a .counts)) k (l .loop .depth) (l .loop .levels)) all (l .loop .inv .2)
+    subst (λ (k : ℕ). Levelled (a .counts) (tableIn (a .s .now) (a .counts)) k (l .loop .levels)) all (l .loop .inv .2)
 
 pub set-levels-spec : {M : Type 1} → statement M
 set-levels-spec =
@@ -81,7 +78,6 @@ set-levels-spec =
     add-levels
     mul-levels
     element-write-levels
-    higher-requires
     add-i
     loop-less
     loop-again
