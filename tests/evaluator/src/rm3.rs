@@ -83,12 +83,19 @@ impl Rm3 {
         bits.map(|(place, &operand)| u32::from(values[operand]) << place).sum()
     }
 
-    pub fn depth(&self) -> u32 {
+    /// The level of each operand.
+    fn levels(&self) -> Vec<u32> {
         let mut levels = vec![0; self.inputs + 2];
         for operation in &self.operations {
             levels.push(1 + operation.map(|operand| levels[operand]).into_iter().max().unwrap_or(0));
         }
-        levels.into_iter().max().unwrap_or(0)
+        levels
+    }
+
+    /// The highest level among the operands that outputs name.
+    pub fn depth(&self) -> u32 {
+        let levels = self.levels();
+        self.outputs.iter().map(|&operand| levels[operand]).max().unwrap_or(0)
     }
 }
 

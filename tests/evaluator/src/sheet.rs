@@ -247,6 +247,7 @@ fn voter_and_levels() {
     assert_eq!(voter(&before, 9, 6, 7), Err(9));
     assert_eq!(voter(&before, 9, 4, 7).map(|after| after.gates.len()), Ok(25));
     assert_eq!(voter(&before, 9, 7, 6), Err(8));
+    assert_eq!((size(&before), depth(&before)), (7, 3));
 }
 
 #[test]

@@ -61,8 +61,13 @@ pub fn size(network: &Network) -> u32 {
     network.gates.len() as u32
 }
 
-/// The highest level of any gate, reached by an output or not.
-pub fn depth(network: &Network) -> u32 {
+/// The level of the node that each output names; inversion does not count.
+pub fn output_levels(network: &Network) -> Vec<u32> {
     let mut known = vec![None; network.nodes()];
-    (0..network.nodes()).map(|node| level(network, &mut known, node)).max().unwrap_or(0)
+    network.outputs.iter().map(|edge| level(network, &mut known, edge.node)).collect()
+}
+
+/// The highest level among the nodes that outputs name.
+pub fn depth(network: &Network) -> u32 {
+    output_levels(network).into_iter().max().unwrap_or(0)
 }

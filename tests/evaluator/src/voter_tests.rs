@@ -5,11 +5,11 @@ use crate::random::Random;
 use crate::request::{Request, Table};
 use crate::step::{apply, Step};
 use crate::table::{Edge, Gate, Network, MOST_GATES};
-use crate::value::{depth, level_of, outputs, size};
+use crate::value::{level_of, output_levels, outputs, size};
 use crate::voter::pair;
 use std::collections::BTreeSet;
 
-/// Every voter of a small network keeps the value of every gate under every assignment, and adds at most a level.
+/// Every voter of a small network keeps the value of every gate under every assignment, and adds at most a level to each.
 #[test]
 fn voters_keep_values_and_add_at_most_a_level() {
     let mut random = Random::new(9);
@@ -24,7 +24,8 @@ fn voters_keep_values_and_add_at_most_a_level() {
             };
             let copied = u32::from(step.gate) - inputs as u32;
             assert_eq!(size(&after), size(&before) + 3 * copied);
-            assert!(depth(&after) <= depth(&before) + 1, "{before:?} {step:?}");
+            let levels = output_levels(&before).into_iter().zip(output_levels(&after));
+            assert!({ levels }.all(|(before, after)| after <= before + 1), "{before:?} {step:?}");
             let kept = |assignment| outputs(&before, assignment) == outputs(&after, assignment);
             assert!((0..1 << inputs).all(kept), "{before:?} {step:?}");
             accepted += 1;
