@@ -1,6 +1,7 @@
 //! What a run met: requests, accepted ones, rules, refusals with their edges, first two edges, stored scripts, RM3 patterns.
 
 use crate::answer::Answer;
+use crate::depth_counts::DepthCounts;
 use crate::request::{Request, CALLS};
 use crate::rm3::class;
 use crate::step::{FirstTwo, Step, LAST_RULE};
@@ -28,6 +29,7 @@ pub struct Counts {
     stored: StoredCounts,
     patterns: [usize; 27],
     longest: u32,
+    depths: DepthCounts,
 }
 
 /// The refusals that an operation can meet.
@@ -75,6 +77,7 @@ impl Counts {
         if let Some(Refusal { number: 5, edge, .. }) = answer.refusal {
             self.edges[operation][edge as usize] += 1;
         }
+        self.depths.note(request, answer);
         match request {
             Request::Step(table, step) => {
                 match answer.refusal {
@@ -142,6 +145,7 @@ impl Counts {
             if operation == 6 && self.patterns.contains(&0) {
                 lines.push("never met: one of the 27 RM3 patterns".to_string());
             }
+            lines.extend(self.depths.never_met(operation));
         }
         lines
     }
@@ -181,6 +185,7 @@ impl Counts {
             let met = self.patterns.iter().filter(|&&count| count > 0).count();
             lines.push(format!("RM3 patterns: {met} of 27"));
         }
+        lines.extend(self.depths.report(&asked));
         lines.join("\n")
     }
 }

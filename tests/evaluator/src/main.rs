@@ -4,6 +4,12 @@
 mod answer;
 mod cases;
 mod counts;
+mod depth_counts;
+mod depth_kept;
+#[cfg(test)]
+mod depth_kept_tests;
+#[cfg(test)]
+mod depth_tests;
 mod difference;
 #[cfg(test)]
 mod edge_tests;
@@ -40,6 +46,8 @@ const HELP: &str = "\
 evaluator [--seed S] [--count N] [--ops 1,2,3,...] [--save FILE] -- PROGRAM [ARGS..]
 
 Starts PROGRAM (majpipe, perhaps behind an emulator) and compares N of its replies with its own answers.
+Of what steps and translations leave it also asks the limits of depth. In 2000 requests or more it must meet tables that
+have gates and depth 0.
   --seed S     the run's seed (default 1); the same seed, count and operations give the same run
   --count N    how many requests (default 4000)
   --ops LIST   the operations to ask, 1 to 8 (default all)

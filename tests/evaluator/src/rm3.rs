@@ -97,6 +97,11 @@ impl Rm3 {
         let levels = self.levels();
         self.outputs.iter().map(|&operand| levels[operand]).max().unwrap_or(0)
     }
+
+    /// The highest level of any operation, reached by an output or not.
+    pub fn highest_level(&self) -> u32 {
+        self.levels().into_iter().max().unwrap_or(0)
+    }
 }
 
 pub fn translate(network: &Network) -> Rm3 {

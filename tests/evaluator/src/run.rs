@@ -3,6 +3,7 @@
 use crate::answer::answer;
 use crate::cases::{Case, Dealer};
 use crate::counts::Counts;
+use crate::depth_kept::depth_fault;
 use crate::difference::{describe, differences, rm3_faults};
 use crate::random::Random;
 use crate::request::Request;
@@ -19,7 +20,8 @@ pub struct Difference {
     pub request: Request,
 }
 
-/// From this many requests on, a run must meet every refusal, bad edge and rule that its operations can meet.
+/// From this many requests on, a run must meet every refusal, bad edge and rule that its operations can meet, and gates
+/// that no output reaches.
 pub const ENOUGH: usize = 2000;
 
 /// How a run asks: the request and the length of its reply, which comes back whole or as what went wrong.
@@ -38,6 +40,7 @@ pub fn run(settings: &Settings, counts: &mut Counts, ask: Ask) -> Result<(), Box
         };
         if lines.is_empty() {
             lines.extend(rm3_faults(&request, &expected, &mut random));
+            lines.extend(depth_fault(&request, &expected));
         }
         if !lines.is_empty() {
             let place = format!("difference: seed {}, case {number}, {kind}", settings.seed);

@@ -71,3 +71,9 @@ pub fn output_levels(network: &Network) -> Vec<u32> {
 pub fn depth(network: &Network) -> u32 {
     output_levels(network).into_iter().max().unwrap_or(0)
 }
+
+/// The highest level of any gate, reached by an output or not.
+pub fn highest_level(network: &Network) -> u32 {
+    let mut known = vec![None; network.nodes()];
+    (0..network.nodes()).map(|node| level(network, &mut known, node)).max().unwrap_or(0)
+}

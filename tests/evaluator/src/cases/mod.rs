@@ -3,6 +3,7 @@
 mod assignments;
 mod damage;
 mod deck;
+mod depths;
 mod edges;
 mod first_two;
 pub mod networks;
@@ -34,6 +35,14 @@ fn kinds(operation: u8) -> Vec<Kind> {
         8 => readings::report_kinds(),
         _ => vec![],
     };
+    kinds.extend(match operation {
+        3 => depths::kinds(report),
+        4 => depths::kinds(steps::sweep),
+        5 => depths::kinds(scripts::some_steps),
+        6 => depths::kinds(translations::with_some_room),
+        8 => depths::kinds(readings::report),
+        _ => vec![],
+    });
     for &(name, weight, make) in tables::KINDS {
         let maker = move |random: &mut Random, turn| {
             let table = make(random, turn);
@@ -42,6 +51,11 @@ fn kinds(operation: u8) -> Vec<Kind> {
         kinds.push(kind(name, weight, maker));
     }
     kinds
+}
+
+fn report(random: &mut Random, network: &Network) -> Request {
+    let behind = random.below(20);
+    Request::Report(lent(random, network, behind))
 }
 
 /// A request with this table and parts that may be right or wrong: what is wrong with the table comes first.

@@ -7,7 +7,7 @@ use super::{assignments, edges, lent, networks};
 use crate::random::Random;
 use crate::reading::Reading;
 use crate::request::{Request, Table};
-use crate::table::{census, records};
+use crate::table::{census, records, Network};
 
 /// A reading of the table's used bytes, as far as there are any, with the counts of its records.
 fn right(table: Table) -> Reading {
@@ -125,6 +125,10 @@ fn kinds(request: fn(&mut Random, Reading) -> Request) -> Vec<Kind> {
         kind("reading of a cut record", 3, ask(cut_record)),
         kind("reading of no records", 1, ask(no_records)),
     ]
+}
+
+pub fn report(random: &mut Random, network: &Network) -> Request {
+    Request::ReadingReport(right(lent(random, network, 0)))
 }
 
 pub fn report_kinds() -> Vec<Kind> {

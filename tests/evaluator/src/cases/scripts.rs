@@ -215,6 +215,14 @@ fn voters(random: &mut Random, _turn: usize) -> Request {
     draft.request()
 }
 
+/// A few steps of any rules, in a buffer with some room.
+pub fn some_steps(random: &mut Random, network: &Network) -> Request {
+    let (behind, steps) = (random.below(200), random.between(1, 12));
+    let mut draft = Draft::new(random, network.clone(), behind);
+    draft.grow_some(random, steps);
+    draft.request()
+}
+
 /// Grows to 1,024 gates, sweeps, mixes and grows again, until the script has as many steps as wanted.
 pub fn long(random: &mut Random, wanted: usize, most_gates: usize) -> Request {
     let network = networks::chain(random, 8, 60, 32);

@@ -120,7 +120,7 @@ fn room(random: &mut Random, turn: usize) -> Request {
     plant.request(random, [0, 1, 7, 8, 9, 15, 16, 17, 23, 24][turn / 3 % 10])
 }
 
-fn sweep(random: &mut Random, network: &Network) -> Request {
+pub fn sweep(random: &mut Random, network: &Network) -> Request {
     let behind = some_behind(random);
     Request::Step(lent(random, network, behind), Step { rule: 8, gate: 0, a: 0, b: 0 })
 }

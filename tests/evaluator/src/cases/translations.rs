@@ -1,7 +1,7 @@
 //! RM3: all 27 patterns, out buffers to the byte, and the largest translation.
 
 use super::deck::{kind, Kind};
-use super::{lent, networks};
+use super::{depths, lent, networks};
 use crate::random::Random;
 use crate::request::Request;
 use crate::rm3::translate;
@@ -15,8 +15,9 @@ fn request(random: &mut Random, network: &Network, room: isize) -> Request {
     Request::Rm3(table, random.bytes(length.max(0) as usize))
 }
 
-fn some_room(random: &mut Random) -> isize {
-    random.pick(&[0, 0, 1, 9, 40])
+pub fn with_some_room(random: &mut Random, network: &Network) -> Request {
+    let room = random.pick(&[0, 0, 1, 9, 40]);
+    request(random, network, room)
 }
 
 /// Adds a gate whose edges have the classes of this pattern (0 to 26), on any nodes.
@@ -35,8 +36,7 @@ fn one_pattern(random: &mut Random, turn: usize) -> Request {
     add_pattern(random, &mut network, turn % 27);
     let last = network.nodes() - 1;
     network.outputs = vec![Edge { node: last, inverted: random.once_in(3) }];
-    let room = some_room(random);
-    request(random, &network, room)
+    with_some_room(random, &network)
 }
 
 /// Each pattern once, in a mixed order, with an output on each gate.
@@ -48,8 +48,7 @@ fn all_patterns(random: &mut Random, _turn: usize) -> Request {
     patterns.into_iter().for_each(|pattern| add_pattern(random, &mut network, pattern));
     let nodes = inputs + 1..network.nodes();
     network.outputs = nodes.map(|node| Edge { node, inverted: random.once_in(4) }).collect();
-    let room = some_room(random);
-    request(random, &network, room)
+    with_some_room(random, &network)
 }
 
 /// Out buffers exactly full, one byte or one record short, empty, and larger.
@@ -65,8 +64,7 @@ fn outputs(random: &mut Random, _turn: usize) -> Request {
     let count = random.between(2, MOST_OUTPUTS);
     let nodes = network.nodes();
     network.outputs = (0..count).map(|_| Edge { node: random.below(nodes), inverted: random.once_in(2) }).collect();
-    let room = some_room(random);
-    request(random, &network, room)
+    with_some_room(random, &network)
 }
 
 /// 1,024 gates of three inverted edges and 32 inverted outputs: three operations a gate and one an output.
@@ -81,8 +79,12 @@ fn largest(random: &mut Random, turn: usize) -> Request {
 
 fn any_table(random: &mut Random, _turn: usize) -> Request {
     let network = networks::any(random);
-    let room = some_room(random);
-    request(random, &network, room)
+    with_some_room(random, &network)
+}
+
+fn deepest(random: &mut Random, turn: usize) -> Request {
+    let network = depths::deepest_rm3(random, turn);
+    with_some_room(random, &network)
 }
 
 pub fn kinds() -> Vec<Kind> {
@@ -93,5 +95,6 @@ pub fn kinds() -> Vec<Kind> {
         kind("RM3 outputs", 5, outputs),
         kind("largest RM3 table", 1, largest),
         kind("RM3 of any table", 4, any_table),
+        kind("deepest RM3 table", 3, deepest),
     ]
 }
