@@ -113,10 +113,31 @@ static void run(size_t used)
     put_part(&table);
 }
 
+static unsigned higher(unsigned a, unsigned b) { return a < b ? b : a; }
+
+/* The depth of the RM3 table that the first bytes of out hold: the highest level among the operands that its outputs name. */
+static unsigned rm3_depth(size_t length)
+{
+    static unsigned levels[65536]; /* of each operand; record i is operand i + 2 */
+    unsigned depth = 0;
+    for (size_t i = 0; i < length / 8; i++) {
+        const uint8_t *r = out.bytes + 8 * i;
+        unsigned x = levels[r[2] | r[3] << 8], y = levels[r[4] | r[5] << 8], z = levels[r[6] | r[7] << 8];
+        levels[i + 2] = r[0] == 4 ? 1 + higher(x, higher(y, z)) : 0;
+        if (r[0] == 3)
+            depth = higher(depth, x);
+    }
+    return depth;
+}
+
+/* The RM3 table's depth is asked for here too: it is that of the bytes written. */
 static void translate(size_t used)
 {
     get_part(&out);
     struct pulpgarnet_written r = pulpgarnet_translate(table.bytes, table.length, used, out.bytes, out.length);
+    struct pulpgarnet_deep d = pulpgarnet_rm3_depth(table.bytes, table.length, used);
+    if (r.refusal == 0 && (d.refusal != 0 || d.depth != rm3_depth(r.length)))
+        end("the depth of the RM3 table is not that of the bytes written");
     put_refusal(r.refusal, r.record, r.edge);
     put_number(r.length);
     put_part(&out);
