@@ -13,5 +13,6 @@ struct pulpgarnet_ran plain_script(uint8_t *table, size_t length, size_t used,
                                    const uint8_t *steps, size_t steps_length);
 struct pulpgarnet_written plain_translate(const uint8_t *table, size_t length, size_t used,
                                           uint8_t *out, size_t out_length);
+struct pulpgarnet_deep plain_rm3_depth(const uint8_t *table, size_t length, size_t used);
 
 #endif

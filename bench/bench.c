@@ -37,14 +37,16 @@ struct side {
     struct pulpgarnet_stepped (*step)(uint8_t *, size_t, size_t, uint16_t, uint16_t, uint16_t, uint16_t);
     struct pulpgarnet_ran (*script)(uint8_t *, size_t, size_t, const uint8_t *, size_t);
     struct pulpgarnet_written (*translate)(const uint8_t *, size_t, size_t, uint8_t *, size_t);
+    struct pulpgarnet_deep (*rm3_depth)(const uint8_t *, size_t, size_t);
 };
 
 static const struct side SIDES[2] = {
-    { pulpgarnet_check, pulpgarnet_evaluate, pulpgarnet_report, pulpgarnet_step, pulpgarnet_script, pulpgarnet_translate },
-    { plain_check, plain_evaluate, plain_report, plain_step, plain_script, plain_translate },
+    { pulpgarnet_check, pulpgarnet_evaluate, pulpgarnet_report, pulpgarnet_step, pulpgarnet_script, pulpgarnet_translate,
+      pulpgarnet_rm3_depth },
+    { plain_check, plain_evaluate, plain_report, plain_step, plain_script, plain_translate, plain_rm3_depth },
 };
 
-enum call { NOTHING, CHECK, EVALUATE, REPORT, STEP, SCRIPT, TRANSLATE };
+enum call { NOTHING, CHECK, EVALUATE, REPORT, STEP, SCRIPT, TRANSLATE, RM3_DEPTH };
 
 struct row { const char *name; enum call call; uint16_t rule; };
 
@@ -64,6 +66,7 @@ static const struct row ROWS[] = {
     { "step 10 opposite", STEP, 10 },
     { "script of 64 steps", SCRIPT, 0 },
     { "translate", TRANSLATE, 0 },
+    { "RM3 depth", RM3_DEPTH, 0 },
 };
 
 enum { COUNT = sizeof ROWS / sizeof ROWS[0] };
@@ -119,6 +122,11 @@ __attribute__((noinline)) static void ask(const struct side *side, const struct 
     case TRANSLATE: {
         struct pulpgarnet_written r = side->translate(table, in->length, in->used, out, sizeof out);
         n[0] = r.refusal, n[1] = r.record, n[2] = r.edge, n[3] = r.length;
+        break;
+    }
+    case RM3_DEPTH: {
+        struct pulpgarnet_deep r = side->rm3_depth(table, in->length, in->used);
+        n[0] = r.refusal, n[1] = r.record, n[2] = r.edge, n[3] = r.depth;
         break;
     }
     }
