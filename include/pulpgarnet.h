@@ -38,7 +38,8 @@ struct pulpgarnet_checked pulpgarnet_check(const uint8_t *table, size_t length, 
    Refusals 1 to 6. */
 struct pulpgarnet_valued pulpgarnet_evaluate(const uint8_t *table, size_t length, size_t used, uint32_t assignment);
 
-/* The number of gates, and the depth. Writes nothing. Refusals 1 to 5. */
+/* The number of gates, and the depth, which is the highest level among the nodes that outputs name: a gate that no output reaches
+   counts for the first alone. Writes nothing. Refusals 1 to 5. */
 struct pulpgarnet_reported pulpgarnet_report(const uint8_t *table, size_t length, size_t used);
 
 /* Applies one step, and returns the new used length. Writes the table, no byte past the larger of its old and its new used
@@ -58,7 +59,7 @@ struct pulpgarnet_ran pulpgarnet_script(uint8_t *table, size_t length, size_t us
 struct pulpgarnet_written pulpgarnet_translate(const uint8_t *table, size_t length, size_t used,
                                                uint8_t *out, size_t out_length);
 
-/* The depth of the RM3 table. Writes nothing. Refusals 1 to 5. */
+/* The depth of the RM3 table, which is the highest level among the operands that its outputs name. Writes nothing. Refusals 1 to 5. */
 struct pulpgarnet_deep pulpgarnet_rm3_depth(const uint8_t *table, size_t length, size_t used);
 
 /* The same as pulpgarnet_evaluate and pulpgarnet_report through a reading: all `length` bytes are the table, and its counts are
