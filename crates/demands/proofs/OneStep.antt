@@ -1,5 +1,5 @@
--- One step takes a buffer that holds an accepted table to another such buffer, and keeps what it must between the two tables; sweep keeps depth itself.
-use Prim.Native.Nat.{ℕ, _+_, _*_, _/_, _%_, _≤_}
+-- One step takes a buffer that holds an accepted table to another such buffer, and keeps what it must between the two tables; sweep keeps depth itself, and every other rule what stood below g.
+use Prim.Native.Nat.{ℕ, suc, _+_, _*_, _/_, _%_, _≤_, _<_}
 use mathlib.Core.Path.{_≡_, refl, sym, _∙_}
 use mathlib.Core.List.{List}
 use native.Mathlib.Omega.{arith}
@@ -9,17 +9,19 @@ use Rattle.refusals.specs.Reply.{Reply, accepted, refused, andThen}
 use Rattle.rules.specs.Kept.{Kept}
 use Rattle.rules.specs.Step.{step, deepensBy, votersBy}
 use Rattle.rules.specs.declared.Step.{Step}
+use Rattle.majority.specs.Table.{recordAt}
 use Rattle.majority.specs.Check.{counts, checkRecords, count}
 use Rattle.majority.specs.declared.Record.{Record}
 use Rattle.majority.proofs.Accepted.{Accepted, acceptance, accepts}
 use Rattle.rules.proofs.Kept.{kept-same}
-use Rattle.rules.proofs.Steps.{step-kept, sweep-step-depth, step-fits, step-accepted}
+use Rattle.rules.proofs.Steps.{step-kept, sweep-step-depth, step-lower, step-fits, step-accepted}
 use Rattle.tables.specs.Bytes.{tableOf}
 use Rattle.tables.specs.Calls.{checkOf}
 use Rattle.tables.proofs.Encoded.{accepted-records}
 use Rattle.rewriting.specs.Calls.{holdingInstead, afterReply, stepTable, stepOf, stepBytes}
 use Rattle.rewriting.proofs.SoundAfterStep.{instead-length, instead-table}
 use Rattle.demands.specs.Demand3.{KeepsDepth, SweepKeepsDepth}
+use Rattle.demands.specs.Probes.{LowerStay}
 
 -- from the buffer xs, whose table has m gates, to the buffer ys: ys holds an accepted table, and depth has risen by at most δ
 pub record Between (δ n m o : ℕ) (xs : List ℕ) (used : ℕ) (ys : List ℕ) (end : ℕ) : Type 0 where
@@ -101,6 +103,14 @@ module _ (xs : List ℕ) (used n m o : ℕ) (is : checkOf xs used ≡ accepted (
         let w = leaves next e in
         record { gates = count 2 (w .table); holds = w .holds; same = rw (w .there) (sweep-step-depth (was .formed) _ _ (w .table) (w .made) eight) }
 
+    lower-between : (next : ℕ) → (s .rule ≡ 8 → ⊥) → stepOf xs used s ≡ accepted next
+        → (j : ℕ) → suc j < s .gate → recordAt (tableOf (stepBytes xs used s) (next / 8)) j ≡ recordAt (tableOf xs (used / 8)) j
+    lower-between next other e j h = let w = leaves next e in rw (w .there) (step-lower (was .formed) _ _ (w .table) (w .made) other j h)
+
 pub sweep-keeps-depth : SweepKeepsDepth
 unfolding SweepKeepsDepth
 sweep-keeps-depth xs used s n m o next is eight e = sweep-between xs used n m o is s next eight e
+
+pub lower-stay : LowerStay
+unfolding LowerStay
+lower-stay xs used s n m o next is other e j h = lower-between xs used n m o is s next other e j h

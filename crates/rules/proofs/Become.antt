@@ -21,14 +21,14 @@ use Rattle.rules.proofs.KeptByNodes.{nodes-in-place, counterpart-lower,
 use Rattle.majority.proofs.Meanings.{Rises, rises}
 use Rattle.rules.proofs.GateNodes.{gateWorth, gate-agrees, GateOf, gate-node}
 
+pub become-other : (g : ℕ) (s : Record) (rs : List Record) (j : ℕ) → (j ≡ g - 1 → ⊥) → recordAt (become g s rs) j ≡ recordAt rs j
+unfolding become
+become-other g s rs j h = getD-set-other rs (g - 1) j s blank h
+
 module _ {n m o g : ℕ} {rs : List Record} (is : GateOf n m o g rs) (s : Record) where
   pub become-same : nodeRecord (become g s rs) g ≡ s
   unfolding become
   become-same = getD-set-same rs (g - 1) s blank (omega (arith, is .formed .whole, is .from, is .upto))
-
-  pub become-other : (j : ℕ) → (j ≡ g - 1 → ⊥) → recordAt (become g s rs) j ≡ recordAt rs j
-  unfolding become
-  become-other j h = getD-set-other rs (g - 1) j s blank h
 
   module _ (kind : s .kind ≡ 2) (reads : Below g s) where
     pub become-formed : WellFormed n m o (become g s rs)
@@ -39,7 +39,7 @@ module _ {n m o g : ℕ} {rs : List Record} (is : GateOf n m o g rs) (s : Record
         go j h (yes e) =
             rw (e, become-same)
             (gate-placed n m (g - 1) s (omega (arith, is .from)) (omega (arith, is .from, is .upto)) kind (below-more _ _ _ (omega arith) reads))
-        go j h (no e) = rw (become-other j e) (placed (is .formed) j h)
+        go j h (no e) = rw (become-other g s rs j e) (placed (is .formed) j h)
 
     becomes : GateOf n m o g (become g s rs)
     becomes = record { formed = become-formed; from = is .from; upto = is .upto }
@@ -48,7 +48,7 @@ module _ {n m o g : ℕ} {rs : List Record} (is : GateOf n m o g rs) (s : Record
       -- nothing changes below g
       become-below : (k : ℕ) → k < g → worth 𝓜 (become g s rs) k ≡ worth 𝓜 rs k
       become-below k h =
-          sym (agree-below (is .formed) become-formed 𝓜 (g - 1) (omega (arith, is .upto)) (omega (arith, is .upto)) (λ j l. become-other j (λ e. omega arith)) k (omega arith))
+          sym (agree-below (is .formed) become-formed 𝓜 (g - 1) (omega (arith, is .upto)) (omega (arith, is .upto)) (λ j l. become-other g s rs j (λ e. omega arith)) k (omega arith))
 
       become-node : worth 𝓜 (become g s rs) g ≡ gateWorth 𝓜 (worth 𝓜 rs) s
       become-node = gate-node becomes 𝓜 ∙ ap (gateWorth 𝓜 (worth 𝓜 (become g s rs))) become-same ∙ gate-agrees 𝓜 _ _ g s reads become-below
@@ -65,7 +65,7 @@ module _ {n m o g : ℕ} {rs : List Record} (is : GateOf n m o g rs) (s : Record
               → Q (worth 𝓜 rs (suc j)) (worth 𝓜 (become g s rs) (suc j))
           go j h below (yes e) = let q : suc j ≡ g = omega (arith, is .from) in rw (q, become-node) here
           go j h below (no e) =
-              counterpart-lower (is .formed) become-formed 𝓜 Q 𝓠 (λ x. x) j j h h (become-other j e) (λ l. refl)
+              counterpart-lower (is .formed) become-formed 𝓜 Q 𝓠 (λ x. x) j j h h (become-other g s rs j e) (λ l. refl)
               (λ x l. edge-related 𝓜 Q 𝓠 _ _ x x refl (below (nodeOf x) l))
 
     pub become-kept : (δ : ℕ) → ((a : ℕ) → value a rs g ≡ gateWorth (values a) (value a rs) s) → gateWorth levels (level rs) s ≤ level rs g + δ

@@ -53,7 +53,7 @@ module _ (g e : ℕ) where
   unfolding redirect
   redirect-hit x h = rw (eq-eqb (nodeOf x) g h)
 
-  redirect-miss : (x : ℕ) → (nodeOf x ≡ g → ⊥) → redirect g e x ≡ x
+  pub redirect-miss : (x : ℕ) → (nodeOf x ≡ g → ⊥) → redirect g e x ≡ x
   unfolding redirect
   redirect-miss x h = rw (ne-eqb (nodeOf x) g h)
 

@@ -11,7 +11,7 @@ use Rattle.majority.specs.Table.{blank, recordAt, WellFormed}
 use Rattle.majority.specs.Edit.{edges, insert}
 use Rattle.majority.specs.declared.Record.{Record}
 use Rattle.majority.proofs.Formed.{reads-lower, reads-nodes}
-use Rattle.rules.proofs.Placed.{edges-at}
+use Rattle.rules.proofs.Placed.{edges-stay, edges-at}
 use Rattle.rules.proofs.KeptByNodes.{Each}
 use Rattle.rules.proofs.Raise.{raised-below, raised-from, raised-cases, raise-below, raise-fits}
 
@@ -83,10 +83,7 @@ module _ (g : ℕ) (news rs : List Record) (some : 0 < g) (fits : g - 1 ≤ leng
 module _ {n m o : ℕ} {rs : List Record} (formed : WellFormed n m o rs) (g : ℕ) (news : List Record) where
   -- below g nothing is renumbered
   pub raise-lower : (j : ℕ) → j < length rs → j < g → edges (raise g (length news)) (recordAt rs j) ≡ recordAt rs j
-  raise-lower j h l =
-      let low = reads-lower formed j h in
-      let stays = raise-below g (length news) in
-      rw (stays (recordAt rs j .e1) (omega (arith, low .first)), stays (recordAt rs j .e2) (omega (arith, low .second)), stays (recordAt rs j .e3) (omega (arith, low .third)))
+  raise-lower j h l = edges-stay (raise g (length news)) (recordAt rs j) (λ x p. raise-below g (length news) x (omega arith)) (reads-lower formed j h)
 
   -- no raised edge passes the last node's, c higher
   pub raise-within : (c j : ℕ) → j < length rs → Each (λ x. raise g c x ≤ 2 * (n + m + c) + 1) (recordAt rs j)

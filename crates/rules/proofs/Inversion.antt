@@ -60,7 +60,7 @@ module _ {n m o g : ℕ} {rs : List Record} (is : GateOf n m o g rs) where
 
   record-other : (j : ℕ) → (j ≡ g - 1 → ⊥) → recordAt (inversion g rs) j ≡ edges (redirect g self) (recordAt rs j)
   unfolding inversion
-  record-other j h = become-other redirected (edges flip r) j h ∙ redirected-at g self (is .formed) some (omega (arith, self-node)) j
+  record-other j h = become-other g (edges flip r) (redirectAll g self rs) j h ∙ redirected-at g self (is .formed) some (omega (arith, self-node)) j
 
   module _ {A : Type 0} (𝓜 : Meaning A) (dual : SelfDual 𝓜) where
     abbrev old : ℕ → A

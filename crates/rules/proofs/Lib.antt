@@ -29,5 +29,7 @@ pub mod Copies  -- what a copy of the gates up to g is worth
 pub mod Pair  -- the gate with two nodes among its edges in the same polarity
 pub mod Voter  -- error voters keep
 -- steps
+pub mod Numbered  -- a rule is known by its number alone
+pub mod LowerStay  -- every rule but sweep leaves what stood below g
 pub mod AcceptedStep  -- a step is accepted where none of its four tests refuses
 pub mod Steps  -- what an accepted step keeps, whatever its rule

@@ -44,6 +44,10 @@ unmoved = record { an-input = λ h. h; from-gates = λ h. h; upto-gates = λ h. 
 pub edges-below : (f : ℕ → ℕ) {b b′ : ℕ} {r : Record} → ((x : ℕ) → nodeOf x < b → nodeOf (f x) < b′) → Below b r → Below b′ (edges f r)
 edges-below f lower low = record { first = lower _ (low .first); second = lower _ (low .second); third = lower _ (low .third) }
 
+-- a record whose edges f leaves as they are
+pub edges-stay : (f : ℕ → ℕ) {b : ℕ} (r : Record) → ((x : ℕ) → nodeOf x < b → f x ≡ x) → Below b r → edges f r ≡ r
+edges-stay f r stays low = rw (stays (r .e1) (low .first), stays (r .e2) (low .second), stays (r .e3) (low .third))
+
 module _ (f : ℕ → ℕ) (zero-stays : f 0 ≡ 0) where
   -- the records of a table whose edges changed
   pub edges-at : (rs : List Record) (j : ℕ) → recordAt (map (edges f) rs) j ≡ edges f (recordAt rs j)

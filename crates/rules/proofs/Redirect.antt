@@ -1,9 +1,10 @@
 -- Redirecting keeps every node's value under an assignment that gives the node and the edge that stands for it the same value; and levels, where that edge stands no higher.
+-- Records below the node stay as they are.
 use Prim.Native.Nat.{ℕ, _+_, _≤_, _<_}
 use mathlib.Core.Path.{_≡_, refl, _∙_}
 use mathlib.Core.List.{List}
 use native.Mathlib.Omega.{arith}
-use lib.ListN.{length-map}
+use lib.ListN.{length, length-map}
 use Rattle.majority.specs.Edge.{nodeOf, redirect}
 use Rattle.majority.specs.Table.{recordAt, WellFormed}
 use Rattle.majority.specs.Node.{Meaning, edgeWorth, worth}
@@ -13,10 +14,11 @@ use Rattle.majority.specs.Edit.{edges, redirectAll}
 use Rattle.rules.specs.Kept.{inPlace, NodesKept}
 use Rattle.majority.specs.declared.Record.{Record}
 use Rattle.majority.proofs.Nodes.{Respects, equals, node-induction, node-zero}
-use Rattle.rules.proofs.Placed.{placed, all-placed, unmoved, edges-at, edges-placed}
+use Rattle.majority.proofs.Formed.{reads-lower}
+use Rattle.rules.proofs.Placed.{placed, all-placed, unmoved, edges-stay, edges-at, edges-placed}
 use Rattle.rules.proofs.KeptByNodes.{nodes-in-place, counterpart-lower}
 use Rattle.majority.proofs.Meanings.{SelfDual, dual-values, dual-levels, Rises, rises}
-use Rattle.rules.proofs.Edges.{redirect-zero, redirect-lowers, redirect-upto}
+use Rattle.rules.proofs.Edges.{redirect-miss, redirect-zero, redirect-lowers, redirect-upto}
 
 module _ (g e : ℕ) {n m o : ℕ} {rs : List Record} (formed : WellFormed n m o rs) (some : 0 < g) (lower : nodeOf e ≤ g) where
   pub redirected-at : (j : ℕ) → recordAt (redirectAll g e rs) j ≡ edges (redirect g e) (recordAt rs j)
@@ -64,3 +66,12 @@ module _ (g e : ℕ) {n m o : ℕ} {rs : List Record} (formed : WellFormed n m o
   pub redirect-kept : ((a : ℕ) → value a rs g ≡ edgeWorth (values a) (value a rs) e) → edgeWorth levels (level rs) e ≤ level rs g
       → NodesKept 0 n m m o inPlace rs (redirectAll g e rs)
   redirect-kept same deep = nodes-in-place redirect-formed (λ a. redirect-values a (same a)) (redirect-levels deep)
+
+module _ {n m o : ℕ} {rs : List Record} (formed : WellFormed n m o rs) (g e : ℕ) where
+  -- below g no node is named that is redirected
+  pub redirect-lower : (j : ℕ) → j < length rs → j < g → edges (redirect g e) (recordAt rs j) ≡ recordAt rs j
+  redirect-lower j h l = edges-stay (redirect g e) (recordAt rs j) (λ x p. redirect-miss g e x (λ q. omega arith)) (reads-lower formed j h)
+
+  pub redirect-below : 0 < g → (j : ℕ) → j < length rs → j < g → recordAt (redirectAll g e rs) j ≡ recordAt rs j
+  unfolding redirectAll
+  redirect-below some j h l = edges-at (redirect g e) (redirect-zero g e some) rs j ∙ redirect-lower j h l

@@ -1,14 +1,16 @@
--- What an accepted step keeps, whatever its rule, and that its table stays within the gates' limit and the buffer.
-use Prim.Native.Nat.{ℕ, _+_, _*_, _≤_}
+-- What an accepted step keeps, whatever its rule, that its table stays within the gates' limit and the buffer, and that it leaves what stood below its gate.
+use Prim.Native.Nat.{ℕ, suc, _+_, _*_, _≤_, _<_}
 use mathlib.Core.Path.{_≡_, refl, sym, ap, _∙_}
 use mathlib.Core.Bool.{Bool, true, false}
 use mathlib.Core.List.{List}
 use native.Mathlib.Omega.{arith}
 use native.Mathlib.Nat.{add-zero}
+use borrow.Author.Tests.{ne-eqb}
+use lib.Dec.{eqb}
 use lib.ListN.{length}
 use Rattle.refusals.specs.Reply.{accepted}
 use Rattle.majority.specs.If.{if_then_else_}
-use Rattle.majority.specs.Table.{WellFormed}
+use Rattle.majority.specs.Table.{recordAt, WellFormed}
 use Rattle.majority.specs.Level.{depth}
 use Rattle.majority.specs.Check.{count}
 use Rattle.majority.specs.declared.Record.{Record}
@@ -29,6 +31,8 @@ use Rattle.rules.proofs.Inward.{inward-kept}
 use Rattle.rules.proofs.Inversion.{inversion-kept}
 use Rattle.rules.proofs.Sweep.{left, left-fewer, sweep-kept, sweep-depth}
 use Rattle.rules.proofs.Voter.{voter-kept}
+use Rattle.rules.proofs.LowerStay.{lower-stays}
+use Rattle.rules.proofs.Numbered.{rule-number, number-of-sweep}
 use Rattle.rules.proofs.AcceptedStep.{Taken, Ruled, ruled, gate-field, share-field, voter-field}
 
 -- how many gates a step of this rule on node g leaves, of m
@@ -86,6 +90,9 @@ module _ {n m o : ℕ} {rs : List Record} (formed : WellFormed n m o rs) {bytes 
   unfolding rewritten
   taken-depth is = rw (taken-count, taken .result, is) (sweep-depth formed)
 
+  taken-lower : isSweep rule ≡ false → (j : ℕ) → suc j < g → recordAt rs′ j ≡ recordAt rs j
+  taken-lower other j h = rw (taken .result) (lower-stays (gate-of formed g a b rule other (taken .fields)) j h rule other a b)
+
   taken-gates : count 2 rs′ ≤ 1024
   taken-gates = omega (arith, taken-count, few-gates formed rule g, taken .few)
 
@@ -109,6 +116,12 @@ module _ {n m o : ℕ} {rs : List Record} (formed : WellFormed n m o rs) (bytes 
   sweep-step-depth is =
       let known : accepted Sweep ≡ accepted (by .rule) = sym (ap ruleOf is) ∙ by .known in
       taken-depth formed (by .taken) (cc)
+
+  -- a step of any other rule leaves the records of the nodes below its gate as they were
+  pub step-lower : (s .rule ≡ 8 → ⊥) → (j : ℕ) → suc j < s .gate → recordAt rs′ j ≡ recordAt rs j
+  step-lower other j h =
+      let known : eqb (s .rule) 8 ≡ isSweep (by .rule) = ap (λ (k : ℕ). eqb k 8) (rule-number (s .rule) (by .rule) (by .known)) ∙ number-of-sweep (by .rule) in
+      taken-lower formed (by .taken) (sym known ∙ ne-eqb (s .rule) 8 other) j h
 
   pub step-gates : count 2 rs′ ≤ 1024
   step-gates = taken-gates formed (by .taken)

@@ -1,0 +1,62 @@
+-- A rule is known by its number alone.
+use Prim.Native.Nat.{ℕ}
+use mathlib.Core.Path.{_≡_, refl, sym, ap, _∙_}
+use mathlib.Core.Bool.{Bool, true, false}
+use native.Mathlib.Omega.{arith}
+use borrow.Author.Tests.{eqb-true}
+use lib.Dec.{eqb}
+use Rattle.majority.specs.If.{if_then_else_}
+use Rattle.refusals.specs.Reply.{Reply, accepted, refused}
+use Rattle.rules.specs.Step.{ruleOf, isSweep}
+use Rattle.rules.specs.declared.Rule.{Rule}
+use Rattle.rules.specs.declared.Rule.the-variants.{Exchange, Majority, Associativity, Outward, Inward, Inversion, Share, Sweep, Voter, Opposite}
+
+-- the number of a rule
+abbrev pub numberOf : Rule → ℕ
+numberOf Exchange = 1
+numberOf Majority = 2
+numberOf Associativity = 3
+numberOf Outward = 4
+numberOf Inward = 5
+numberOf Inversion = 6
+numberOf Share = 7
+numberOf Sweep = 8
+numberOf Voter = 9
+numberOf Opposite = 10
+
+module _ (k : ℕ) (rule : Rule) where
+  -- where the rule is not r, which has the number tested, it is one of the rest
+  or-else : (r : Rule) (rest : Reply Rule) → (rest ≡ accepted rule → k ≡ numberOf rule) → (if eqb k (numberOf r) then accepted r else rest) ≡ accepted rule → k ≡ numberOf rule
+  or-else r rest later e = go (eqb k (numberOf r)) refl e
+    where
+      go : (t : Bool) → eqb k (numberOf r) ≡ t → (if t then accepted r else rest) ≡ accepted rule → k ≡ numberOf rule
+      go true hit e = let same : r ≡ rule = cc in eqb-true k (numberOf r) hit ∙ ap numberOf same
+      go false miss e = later e
+
+  pub rule-number : ruleOf k ≡ accepted rule → k ≡ numberOf rule
+  unfolding ruleOf
+  rule-number =
+      or-else Exchange _
+      (or-else Majority _
+      (or-else Associativity _
+      (or-else Outward _
+      (or-else Inward _
+      (or-else Inversion _
+      (or-else Share _
+      (or-else Sweep _
+      (or-else Voter _
+      (or-else Opposite _
+      (λ e. let z : _≡_ {A = ℕ} 0 1 = cc in absurd (omega arith)))))))))))
+
+-- sweep is rule 8
+pub number-of-sweep : (rule : Rule) → eqb (numberOf rule) 8 ≡ isSweep rule
+number-of-sweep Exchange = refl
+number-of-sweep Majority = refl
+number-of-sweep Associativity = refl
+number-of-sweep Outward = refl
+number-of-sweep Inward = refl
+number-of-sweep Inversion = refl
+number-of-sweep Share = refl
+number-of-sweep Sweep = refl
+number-of-sweep Voter = refl
+number-of-sweep Opposite = refl
