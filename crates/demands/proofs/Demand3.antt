@@ -9,13 +9,16 @@ use Rattle.tables.specs.Bytes.{tableOf}
 use Rattle.tables.specs.Calls.{checkOf}
 use Rattle.rewriting.specs.Script.{scriptRun}
 use Rattle.rules.specs.Step.{deepensBy, votersBy}
+use Rattle.rules.specs.Followed.{Probe, followed, followedEdge}
 use Rattle.demands.specs.Demand3.{countedTaken, After, runScripts, Keeps, Demand3}
+use Rattle.demands.specs.Probes.{throughScripts}
 use Rattle.demands.proofs.OneStep.{Between, between-same}
 use Rattle.demands.proofs.OneScript.{between-sum, between-script}
 
-between-scripts : (scripts : List (List ℕ)) (xs : List ℕ) (used n m o : ℕ) → checkOf xs used ≡ accepted (counts n m o)
-    → Between (runScripts xs used scripts .deepened + runScripts xs used scripts .voted) n m o xs used (runScripts xs used scripts .bytes) (runScripts xs used scripts .used)
-unfolding runScripts
+pub between-scripts : (scripts : List (List ℕ)) (xs : List ℕ) (used n m o : ℕ) → checkOf xs used ≡ accepted (counts n m o)
+    → Between (runScripts xs used scripts .deepened + runScripts xs used scripts .voted) (throughScripts (followed n) xs used scripts) (throughScripts (followedEdge n) xs used scripts)
+    n m o xs used (runScripts xs used scripts .bytes) (runScripts xs used scripts .used)
+unfolding runScripts throughScripts
 between-scripts [] xs used n m o is = between-same xs used n m o is
 between-scripts (script ∷ scripts) xs used n m o is =
     let p = between-script xs used n m o is script in
@@ -24,7 +27,8 @@ between-scripts (script ∷ scripts) xs used n m o is =
     between-sum (countedTaken deepensBy script run) (countedTaken votersBy script run) (rest .deepened) (rest .voted) p (between-scripts scripts (run .bytes) (run .used) n (p .gates) o (p .holds))
 
 -- what is kept between two buffers, phrase by phrase
-keeps : (n m o : ℕ) (xs : List ℕ) (used : ℕ) (after : After) → Between (after .deepened + after .voted) n m o xs used (after .bytes) (after .used) → Keeps n m o (tableOf xs (used / 8)) after
+keeps : {P : Probe → Probe} {E : ℕ → ℕ} (n m o : ℕ) (xs : List ℕ) (used : ℕ) (after : After) → Between (after .deepened + after .voted) P E n m o xs used (after .bytes) (after .used)
+    → Keeps n m o (tableOf xs (used / 8)) after
 keeps n m o xs used after b = record {
   gates = b .gates;
   holds = b .holds;

@@ -7,6 +7,7 @@ use borrow.Author.Tests.{le-ltb, eq-eqb}
 use lib.ListN.{length}
 use Rattle.refusals.specs.Reply.{Reply, accepted, refused, andThen}
 use Rattle.rules.specs.Kept.{Kept}
+use Rattle.rules.specs.Followed.{Probe, followed, followedEdge, Shows}
 use Rattle.rules.specs.Step.{step, deepensBy, votersBy}
 use Rattle.rules.specs.declared.Step.{Step}
 use Rattle.majority.specs.Table.{recordAt}
@@ -14,6 +15,7 @@ use Rattle.majority.specs.Check.{counts, checkRecords, count}
 use Rattle.majority.specs.declared.Record.{Record}
 use Rattle.majority.proofs.Accepted.{Accepted, acceptance, accepts}
 use Rattle.rules.proofs.Kept.{kept-same}
+use Rattle.rules.proofs.Followed.{step-shows}
 use Rattle.rules.proofs.Steps.{step-kept, sweep-step-depth, step-lower, step-fits, step-accepted}
 use Rattle.tables.specs.Bytes.{tableOf}
 use Rattle.tables.specs.Calls.{checkOf}
@@ -21,13 +23,14 @@ use Rattle.tables.proofs.Encoded.{accepted-records}
 use Rattle.rewriting.specs.Calls.{holdingInstead, afterReply, stepTable, stepOf, stepBytes}
 use Rattle.rewriting.proofs.SoundAfterStep.{instead-length, instead-table}
 use Rattle.demands.specs.Demand3.{KeepsDepth, SweepKeepsDepth}
-use Rattle.demands.specs.Probes.{LowerStay}
 
--- from the buffer xs, whose table has m gates, to the buffer ys: ys holds an accepted table, and depth has risen by at most δ
-pub record Between (δ n m o : ℕ) (xs : List ℕ) (used : ℕ) (ys : List ℕ) (end : ℕ) : Type 0 where
+-- from the buffer xs, whose table has m gates, to the buffer ys: ys holds an accepted table, depth has risen by at most δ, and probes and their edges have become what `probe` and `edge` say
+pub record Between (δ : ℕ) (probe : Probe → Probe) (edge : ℕ → ℕ) (n m o : ℕ) (xs : List ℕ) (used : ℕ) (ys : List ℕ) (end : ℕ) : Type 0 where
   pub gates : ℕ
   pub holds : checkOf ys end ≡ accepted (counts n gates o)
   pub kept : Kept δ n m gates o (tableOf xs (used / 8)) (tableOf ys (end / 8))
+  pub shows : (first : List Record) (g : ℕ) (p : Probe) (x : ℕ)
+      → Shows n m first (tableOf xs (used / 8)) g p x → Shows n gates first (tableOf ys (end / 8)) g (probe p) (edge x)
 
 -- a table put in place of another is the one that the buffer holds up to the length replied
 module _ (t : List Record) (used : ℕ) (xs : List ℕ) where
@@ -51,8 +54,8 @@ module _ (xs : List ℕ) (used n m o : ℕ) (is : checkOf xs used ≡ accepted (
   was = acceptance n m o _ (accepted-records xs used _ is .2)
 
   -- no step at all
-  pub between-same : Between 0 n m o xs used xs used
-  between-same = record { gates = m; holds = is; kept = kept-same (was .formed) }
+  pub between-same : Between 0 (λ p. p) (λ x. x) n m o xs used xs used
+  between-same = record { gates = m; holds = is; kept = kept-same (was .formed); shows = λ first g p x w. w }
 
   module _ (s : Step) where
     table-is : stepTable xs used s ≡ outcome xs used n m s
@@ -93,24 +96,27 @@ module _ (xs : List ℕ) (used n m o : ℕ) (is : checkOf xs used ≡ accepted (
             let z : _≡_ {A = ℕ} 0 1 = cc in
             absurd (omega arith)
 
-    pub between-step : (next : ℕ) → stepOf xs used s ≡ accepted next → Between (deepensBy s + votersBy s) n m o xs used (stepBytes xs used s) next
+    pub between-step : (next : ℕ) → stepOf xs used s ≡ accepted next
+        → Between (deepensBy s + votersBy s) (followed n (tableOf xs (used / 8)) s) (followedEdge n (tableOf xs (used / 8)) s) n m o xs used (stepBytes xs used s) next
     between-step next e =
         let w = leaves next e in
-        record { gates = count 2 (w .table); holds = w .holds; kept = rw (w .there) (step-kept (was .formed) _ _ (w .table) (w .made)) }
+        record {
+          gates = count 2 (w .table);
+          holds = w .holds;
+          kept = rw (w .there) (step-kept (was .formed) _ _ (w .table) (w .made));
+          shows = λ first g p x before. rw (w .there) (step-shows (was .formed) _ _ (w .table) (w .made) first g p x before);
+        }
 
     sweep-between : (next : ℕ) → s .rule ≡ 8 → stepOf xs used s ≡ accepted next → KeepsDepth n m o (tableOf xs (used / 8)) (stepBytes xs used s) next
     sweep-between next eight e =
         let w = leaves next e in
         record { gates = count 2 (w .table); holds = w .holds; same = rw (w .there) (sweep-step-depth (was .formed) _ _ (w .table) (w .made) eight) }
 
-    lower-between : (next : ℕ) → (s .rule ≡ 8 → ⊥) → stepOf xs used s ≡ accepted next
+    -- a step of any other rule leaves the records of the nodes below its gate as they were
+    pub lower-between : (next : ℕ) → (s .rule ≡ 8 → ⊥) → stepOf xs used s ≡ accepted next
         → (j : ℕ) → suc j < s .gate → recordAt (tableOf (stepBytes xs used s) (next / 8)) j ≡ recordAt (tableOf xs (used / 8)) j
     lower-between next other e j h = let w = leaves next e in rw (w .there) (step-lower (was .formed) _ _ (w .table) (w .made) other j h)
 
 pub sweep-keeps-depth : SweepKeepsDepth
 unfolding SweepKeepsDepth
 sweep-keeps-depth xs used s n m o next is eight e = sweep-between xs used n m o is s next eight e
-
-pub lower-stay : LowerStay
-unfolding LowerStay
-lower-stay xs used s n m o next is other e j h = lower-between xs used n m o is s next other e j h

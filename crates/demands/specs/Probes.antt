@@ -1,14 +1,50 @@
--- What a step leaves inside a table (SPEC 5.6).
-use Prim.Native.Nat.{ℕ, suc, _/_, _<_}
+-- Probes inside (SPEC 5.6): take an accepted table, run any scripts on it one after another, and follow each gate of the first table. Then what a step leaves below its gate.
+use Prim.Native.Nat.{ℕ, suc, _+_, _/_, _≤_, _<_}
 use mathlib.Core.Path.{_≡_}
-use mathlib.Core.List.{List}
+use mathlib.Core.List.{List, [], _∷_}
 use Rattle.refusals.specs.Reply.{accepted}
 use Rattle.majority.specs.Table.{recordAt}
 use Rattle.majority.specs.Check.{counts}
+use Rattle.majority.specs.declared.Record.{Record}
+use Rattle.rules.specs.Rules.{plain}
+use Rattle.rules.specs.Followed.{Probe, stands, followed, followedEdge, Shows}
 use Rattle.rules.specs.declared.Step.{Step}
 use Rattle.tables.specs.Bytes.{tableOf}
 use Rattle.tables.specs.Calls.{checkOf}
 use Rattle.rewriting.specs.Calls.{stepOf, stepBytes}
+use Rattle.rewriting.specs.Script.{scriptRun}
+use Rattle.rewriting.specs.Through.{throughScript}
+use Rattle.demands.specs.Demand3.{tableAfter, runScripts}
+
+-- what goes along with a table through scripts one after another, each on what the one before left
+unfoldable pub throughScripts : {A : Type 0} → (List Record → Step → A → A) → List ℕ → ℕ → List (List ℕ) → A → A
+throughScripts f xs used [] x = x
+throughScripts f xs used (script ∷ scripts) x =
+    let run = scriptRun xs used script in
+    throughScripts f (run .bytes) (run .used) scripts (throughScript f xs used script x)
+
+-- the probe of gate g of the first table, of n inputs, after the scripts; and the edge that is kept for it
+abbrev pub probeAfter : ℕ → List ℕ → ℕ → List (List ℕ) → ℕ → Probe
+probeAfter n xs used scripts g = throughScripts (followed n) xs used scripts (stands g 0)
+
+abbrev pub edgeAfter : ℕ → List ℕ → ℕ → List (List ℕ) → ℕ → ℕ
+edgeAfter n xs used scripts g = throughScripts (followedEdge n) xs used scripts (plain g)
+
+-- from the first table in xs, of n inputs, m gates and o outputs, to what the scripts leave
+pub record KeepsProbes (n m o : ℕ) (xs : List ℕ) (used : ℕ) (scripts : List (List ℕ)) : Type 0 where
+  -- how many gates there are now
+  pub gates : ℕ
+  pub holds : checkOf (runScripts xs used scripts .bytes) (runScripts xs used scripts .used) ≡ accepted (counts n gates o)
+  -- each gate of the first table: while it is present it is a gate, and its value under each assignment is its first value, or its inverse if an odd number of inversion steps taken named it
+  pub shows : (g : ℕ) → n < g → g ≤ n + m
+      → Shows n gates (tableOf xs (used / 8)) (tableAfter (runScripts xs used scripts)) g (probeAfter n xs used scripts g) (edgeAfter n xs used scripts g)
+
+-- for every buffer, used length and scripts: where the first check accepts, all this is so
+unfoldable pub ProbesInside : Type 0
+ProbesInside =
+    (xs : List ℕ) (used : ℕ) (scripts : List (List ℕ)) (n m o : ℕ)
+    → checkOf xs used ≡ accepted (counts n m o)
+    → KeepsProbes n m o xs used scripts
 
 -- every step but sweep leaves what stood below g as it was: for every buffer and used length that the check accepts, and every step of another rule than 8 that is taken there, the record of each node below the step's gate
 unfoldable pub LowerStay : Type 0

@@ -1,5 +1,5 @@
 -- Closing up keeps a table where with each record the nodes that it names are kept, and all inputs and outputs are.
-use Prim.Native.Nat.{ℕ, suc, _+_, _≤_, _<_}
+use Prim.Native.Nat.{ℕ, suc, _+_, _-_, _≤_, _<_}
 use mathlib.Core.Path.{_≡_, refl, sym, ap, _∙_}
 use mathlib.Core.Bool.{Bool, true}
 use mathlib.Core.List.{List, map}
@@ -105,6 +105,9 @@ module _ {keep : ℕ → Bool} {n m m′ o : ℕ} {rs : List Record} (may : Keep
     values = λ a k h s. sym (closed-nodes (values a) k h s);
     levels = λ k h s. omega (arith, closed-nodes levels k h s);
     nodes = λ k h. omega (arith, kept-order keep k (n + m) h, may .gates);
+    gates = λ k h s.
+        let e : suc (k - 1) ≡ k = omega arith in
+        omega (arith, kept-in keep (k - 1) (rw e s), kept-order keep (suc (k - 1)) k (omega arith), kept-order keep n (k - 1) (omega arith), inputs-stay n (omega arith));
     outputs = λ j h.
         let s : keep (suc (n + m + j)) ≡ true = may .outputs (n + m + j) (omega arith) (omega arith) in
         (s, kept-in keep (n + m + j) s ∙ ap suc (outputs-move j (omega arith)), refl);

@@ -99,6 +99,7 @@ module _ {n m o g : ℕ} {rs : List Record} (is : GateOf n m o g rs) (news : Lis
     values = λ a k h s. sym (insert-nodes (values a) k h);
     levels = λ k h s. omega (arith, insert-nodes levels k h);
     nodes = within;
+    gates = λ k h s. raised-cases g c (λ i. n < i) k (λ l. h) (λ l. omega arith);
     outputs = λ j h. (refl, raised-from g c (suc (n + m + j)) (omega (arith, is .upto)) ∙ omega arith, refl);
   }
 

@@ -124,5 +124,6 @@ module _ {n m o g : ℕ} {rs : List Record} (is : GateOf n m o g rs) where
     values = λ a k h s. inverts-g (values a) (dual-values a) k h;
     levels = λ k h s. omega (arith, same-level k h);
     nodes = λ k h. h;
+    gates = λ k h s. h;
     outputs = λ j h. (refl, refl, ne-eqb (suc (n + m + j)) g (λ e. omega (arith, is .upto)));
   }

@@ -23,13 +23,13 @@ abbrev pub movesThen : Moves → Moves → Moves
 movesThen p q = record {
   stays = λ k. p .stays k && q .stays (p .place k);
   place = λ k. q .place (p .place k);
-  inverted = λ k. turned (p .inverted k) (q .inverted (p .place k));
+  inverted = λ k. turned (q .inverted (p .place k)) (p .inverted k);
 }
 
-turned-twice : (s t v : Bool) → turned t (turned s v) ≡ turned (turned s t) v
+pub turned-twice : (s t v : Bool) → turned t (turned s v) ≡ turned (turned t s) v
 turned-twice true true v = not-twice v
-turned-twice true false v = refl
-turned-twice false t v = refl
+turned-twice false true v = refl
+turned-twice s false v = refl
 
 pub nodes-then : {δ ε n m₁ m₂ m₃ o : ℕ} {p q : Moves} {rs₁ rs₂ rs₃ : List Record} → NodesKept δ n m₁ m₂ o p rs₁ rs₂ → NodesKept ε n m₂ m₃ o q rs₂ rs₃
     → NodesKept (δ + ε) n m₁ m₃ o (movesThen p q) rs₁ rs₃
@@ -40,10 +40,11 @@ nodes-then {n = n} {m₁} {m₂} {o = o} {p} {q} {rs₁} w u = record {
       u .values a (p .place k) (inside k h) (t .1) ∙ ap (turned (q .inverted (p .place k))) (w .values a k h (t .0)) ∙ turned-twice (p .inverted k) (q .inverted (p .place k)) (value a rs₁ k);
   levels = λ k h s. let t = both (p .stays k) (q .stays (p .place k)) s in omega (arith, w .levels k h (t .0), u .levels (p .place k) (inside k h) (t .1));
   nodes = λ k h. u .nodes (p .place k) (w .nodes k h);
+  gates = λ k h s. let t = both (p .stays k) (q .stays (p .place k)) s in u .gates (p .place k) (w .gates k h (t .0)) (t .1);
   outputs = λ j h.
       let s = w .outputs j h in
       let t = u .outputs j h in
-      (rw (s .0, s .1) (t .0), ap (q .place) (s .1) ∙ t .1, rw (s .2, s .1) (t .2));
+      (rw (s .0, s .1) (t .0), ap (q .place) (s .1) ∙ t .1, rw (s .2, s .1, t .2));
 }
   where
     inside : (k : ℕ) → k ≤ n + m₁ + o → p .place k ≤ n + m₂ + o

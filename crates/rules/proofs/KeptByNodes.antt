@@ -41,6 +41,7 @@ nodes-in-place new same rise = record {
   values = λ a k h s. sym (same a k h);
   levels = λ k h s. rise k h;
   nodes = λ k h. h;
+  gates = λ k h s. h;
   outputs = λ j h. (refl, refl, refl);
 }
 

@@ -33,3 +33,4 @@ pub mod Numbered  -- a rule is known by its number alone
 pub mod LowerStay  -- every rule but sweep leaves what stood below g
 pub mod AcceptedStep  -- a step is accepted where none of its four tests refuses
 pub mod Steps  -- what an accepted step keeps, whatever its rule
+pub mod Followed  -- what a probe shows after an accepted step

@@ -1,12 +1,15 @@
 -- A rule is known by its number alone.
 use Prim.Native.Nat.{ℕ}
-use mathlib.Core.Path.{_≡_, refl, sym, ap, _∙_}
-use mathlib.Core.Bool.{Bool, true, false}
+use mathlib.Core.Path.{_≡_, refl, ap, _∙_}
+use mathlib.Core.Bool.{Bool, true, false, _&&_}
+use mathlib.Core.List.{List}
 use native.Mathlib.Omega.{arith}
 use borrow.Author.Tests.{eqb-true}
 use lib.Dec.{eqb}
 use Rattle.majority.specs.If.{if_then_else_}
-use Rattle.refusals.specs.Reply.{Reply, accepted, refused}
+use Rattle.refusals.specs.Reply.{Reply, accepted}
+use Rattle.majority.specs.declared.Record.{Record}
+use Rattle.rules.specs.Kept.{movesOf}
 use Rattle.rules.specs.Step.{ruleOf, isSweep}
 use Rattle.rules.specs.declared.Rule.{Rule}
 use Rattle.rules.specs.declared.Rule.the-variants.{Exchange, Majority, Associativity, Outward, Inward, Inversion, Share, Sweep, Voter, Opposite}
@@ -60,3 +63,16 @@ number-of-sweep Share = refl
 number-of-sweep Sweep = refl
 number-of-sweep Voter = refl
 number-of-sweep Opposite = refl
+
+-- inversion is rule 6, and alone inverts a node, its gate
+pub number-of-inversion : (n : ℕ) (rs : List Record) (rule : Rule) (g k : ℕ) → (eqb (numberOf rule) 6 && eqb k g) ≡ movesOf n rs rule g .inverted k
+number-of-inversion n rs Exchange g k = refl
+number-of-inversion n rs Majority g k = refl
+number-of-inversion n rs Associativity g k = refl
+number-of-inversion n rs Outward g k = refl
+number-of-inversion n rs Inward g k = refl
+number-of-inversion n rs Inversion g k = refl
+number-of-inversion n rs Share g k = refl
+number-of-inversion n rs Sweep g k = refl
+number-of-inversion n rs Voter g k = refl
+number-of-inversion n rs Opposite g k = refl

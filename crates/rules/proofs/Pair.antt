@@ -24,7 +24,7 @@ unfolding flip
 edge-to-node true k = omega arith
 edge-to-node false k = omega arith
 
-edge-to-polarity : (p : Bool) (k : ℕ) → isInverted (edgeTo p k) ≡ p
+pub edge-to-polarity : (p : Bool) (k : ℕ) → isInverted (edgeTo p k) ≡ p
 unfolding flip
 edge-to-polarity true k = eq-eqb (edgeTo true k % 2) 1 (omega arith)
 edge-to-polarity false k = ne-eqb (edgeTo false k % 2) 1 (λ q. omega arith)

@@ -71,8 +71,9 @@ pub record NodesKept (δ n m m′ o : ℕ) (moves : Moves) (rs rs′ : List Reco
   pub values : (a k : ℕ) → k ≤ n + m + o → moves .stays k ≡ true → value a rs′ (moves .place k) ≡ turned (moves .inverted k) (value a rs k)
   -- and its level rises by at most δ
   pub levels : (k : ℕ) → k ≤ n + m + o → moves .stays k ≡ true → level rs′ (moves .place k) ≤ level rs k + δ
-  -- nodes stay before the outputs, and these stay uninverted in their order
+  -- nodes stay before the outputs, gates after the inputs, and outputs uninverted in their order
   pub nodes : (k : ℕ) → k ≤ n + m → moves .place k ≤ n + m′
+  pub gates : (k : ℕ) → n < k → moves .stays k ≡ true → n < moves .place k
   pub outputs : (j : ℕ) → j < o → (moves .stays (suc (n + m + j)) ≡ true) × (moves .place (suc (n + m + j)) ≡ suc (n + m′ + j)) × (moves .inverted (suc (n + m + j)) ≡ false)
 
 -- from the table rs of m gates to rs′ of m′ gates: rs′ is well formed, each output keeps its value under each assignment, and depth rises by at most δ

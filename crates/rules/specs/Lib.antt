@@ -3,3 +3,4 @@ pub mod Rules  -- rules 1 to 7 and 10: the form that each asks for, the table th
 pub mod Voter  -- error voters (SPEC 5.3, rule 9)
 pub mod Step  -- one step: refusals 7 to 11, or the table that the rule makes (SPEC 5.1 and 5.4)
 pub mod Kept  -- what rewriting keeps (SPEC 5.6)
+pub mod Followed  -- a gate followed through steps (SPEC 5.6)
