@@ -7,15 +7,17 @@ stands in it once. For each of its edits rt checks the whole crate. Here an edit
 left, so that only what depends on the edited text is checked again; --whole does as rt does.
 
 An edit passes where the crate is not proved with it, and what the prover names first is a fact that is not so. Where the proof
-only no longer fits the code's shape, the edit shows nothing and fails. What the prover said is in target/quick/CRATE/EDIT.log.
+only no longer fits the code's shape, or the definition is none any more, the edit shows nothing and fails. What the prover said is in target/quick/CRATE/EDIT.log.
 """
 import concurrent.futures, os, pathlib, re, shutil, subprocess, sys, tempfile, time
 
 ROOT = pathlib.Path(__file__).resolve().parent.parent
 CRATES, RLIBS, LOGS = ROOT / "crates", ROOT / "target" / "rlib", ROOT / "target" / "quick"
 PARTS = ("src", "specs", "proofs")
-# what the prover says where a proof or an edit names something that is not there
-SHAPE = re.compile(r"that can be named from here|is not in scope|has no field|expected type `tie\.Need-")
+# what the prover says where a proof or an edit names something that is not there, or leaves out what is
+SHAPE = re.compile(
+    r"that can be named from here|is not in scope|has no field|missing field|expected type `tie\.Need-"
+    r"|explicit arguments? but the pattern|is given \d+ argument|cannot continue the declaration")
 
 
 class BadEdit(Exception):
@@ -116,11 +118,12 @@ def refused(crate, uses, edit, left, room):
         raise BadEdit("NOT REFUSED: the crate is proved with it")
     if status != 1 or not re.search("^logic=not-proved", said, re.M):
         raise BadEdit(f"it does not reach the prover (status {status})")
-    first = re.search(r"^(\S+): error: (.*)$", said, re.M) or re.search(r"^note: (\S+:\d+:\d+): (.*)$", said, re.M)
+    # an error goes on up to the next line that begins with a place or with the code's own list
+    first = re.search(r"^(\S+): error: (.*(?:\n[ \t].*)*)", said, re.M) or re.search(r"^note: (\S+:\d+:\d+): (.*)$", said, re.M)
     if not first:
         raise BadEdit("the prover names no place")
     at = first[1].removeprefix(f"{copy}/")
-    if SHAPE.search(first[2]):
+    if SHAPE.search(first[2]) or at.startswith("specs/"):
         raise BadEdit(f"refused for its shape alone, at {at}")
     return at
 
