@@ -118,8 +118,7 @@ def refused(crate, uses, edit, left, room):
         raise BadEdit("NOT REFUSED: the crate is proved with it")
     if status != 1 or not re.search("^logic=not-proved", said, re.M):
         raise BadEdit(f"it does not reach the prover (status {status})")
-    # an error goes on up to the next line that begins with a place or with the code's own list
-    first = re.search(r"^(\S+): error: (.*(?:\n[ \t].*)*)", said, re.M) or re.search(r"^note: (\S+:\d+:\d+): (.*)$", said, re.M)
+    first = re.search(r"^(\S+): error: (.*)$", said, re.M) or re.search(r"^note: (\S+:\d+:\d+): (.*)$", said, re.M)
     if not first:
         raise BadEdit("the prover names no place")
     at = first[1].removeprefix(f"{copy}/")
