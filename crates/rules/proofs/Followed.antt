@@ -19,7 +19,7 @@ use Rattle.rules.specs.Rules.{plain}
 use Rattle.rules.specs.Voter.{edgeTo}
 use Rattle.rules.specs.Kept.{Moves, movesAs, movesBy, turned, NodesKept}
 use Rattle.rules.specs.Step.{step, deepensBy, votersBy}
-use Rattle.rules.specs.Followed.{Probe, stands, swept, inverts, followed, odd, followedEdge, Present, Shows}
+use Rattle.rules.specs.Followed.{Probe, stands, swept, inverts, followed, odd, movedEdge, followedEdge, Present, Shows}
 use Rattle.rules.specs.declared.Step.{Step}
 use Rattle.rules.specs.declared.Rule.{Rule}
 use Rattle.rules.proofs.Kept.{turned-twice}
@@ -89,7 +89,7 @@ module _ {n m o : ℕ} {rs : List Record} (formed : WellFormed n m o rs) (bytes 
         ∙ ap (λ (t : Bool). turned t (value a first g)) (sym (parity k named)))
 
     pub step-shows : (p : Probe) (x : ℕ) → Shows n m first rs g p x → Shows n (count 2 rs′) first rs′ g (followed n rs s p) (followedEdge n rs s x)
-    unfolding followedEdge
+    unfolding movedEdge
     step-shows swept x was = rw (was .edge) shows-swept
     step-shows (stands k named) x was =
         let here : Present n m first rs g k named = was .present k named refl in

@@ -34,3 +34,4 @@ pub mod LowerStay  -- every rule but sweep leaves what stood below g
 pub mod AcceptedStep  -- a step is accepted where none of its four tests refuses
 pub mod Steps  -- what an accepted step keeps, whatever its rule
 pub mod Followed  -- what a probe shows after an accepted step
+pub mod MovedEdge  -- what becomes of the edge that is kept for a gate, by how the nodes move

@@ -64,6 +64,11 @@ number-of-sweep Sweep = refl
 number-of-sweep Voter = refl
 number-of-sweep Opposite = refl
 
+-- and so a rule that is sweep is known to be
+pub sweep-known : (k : ℕ) (rule : Rule) → ruleOf k ≡ accepted rule → isSweep rule ≡ true → ruleOf k ≡ accepted Sweep
+unfolding ruleOf
+sweep-known k rule known is = ap ruleOf (rule-number k rule known ∙ eqb-true (numberOf rule) 8 (number-of-sweep rule ∙ is))
+
 -- inversion is rule 6, and alone inverts a node, its gate
 pub number-of-inversion : (n : ℕ) (rs : List Record) (rule : Rule) (g k : ℕ) → (eqb (numberOf rule) 6 && eqb k g) ≡ movesOf n rs rule g .inverted k
 number-of-inversion n rs Exchange g k = refl

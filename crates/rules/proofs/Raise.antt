@@ -54,3 +54,7 @@ module _ (g c : ℕ) where
 pub raised-next : (g c j : ℕ) → 0 < g → raised g c (suc j) ≡ suc (raised (g - 1) c j)
 raised-next g c j h =
     raised-cases g c (λ k. k ≡ suc (raised (g - 1) c j)) (suc j) (λ l. omega (arith, raised-below (g - 1) c j (omega arith))) (λ l. omega (arith, raised-from (g - 1) c j (omega arith)))
+
+-- no gate more
+pub raised-none : (g k : ℕ) → raised g 0 k ≡ k
+raised-none g k = raised-cases g 0 (λ i. i ≡ k) k (λ l. refl) (λ l. omega arith)

@@ -9,7 +9,7 @@ use Rattle.majority.specs.Edge.{nodeOf, isInverted}
 use Rattle.majority.specs.Node.{edgeWorth}
 use Rattle.majority.specs.Value.{values, value}
 use Rattle.rules.specs.Voter.{edgeTo}
-use Rattle.rules.specs.Kept.{movesBy, turned}
+use Rattle.rules.specs.Kept.{Moves, movesBy, turned}
 use Rattle.rules.specs.declared.Step.{Step}
 use Rattle.majority.specs.declared.Record.{Record}
 
@@ -35,14 +35,17 @@ abbrev pub edgeOf : Probe → ℕ
 edgeOf (stands k named) = edgeTo (odd named) k
 edgeOf swept = 0
 
--- what becomes of that edge by the step
-unfoldable pub followedEdge : ℕ → List Record → Step → ℕ → ℕ
-followedEdge n rs s e =
+-- what becomes of that edge where the nodes move: 0 stays 0, and so becomes the edge to a node that does not stay
+unfoldable pub movedEdge : Moves → ℕ → ℕ
+movedEdge moves e =
     let k = nodeOf e in
-    let moves = movesBy n rs s in
     if eqb e 0 then 0
     else if moves .stays k then edgeTo (turned (moves .inverted k) (isInverted e)) (moves .place k)
     else 0
+
+-- and so by a step taken on the table rs of n inputs
+abbrev pub followedEdge : ℕ → List Record → Step → ℕ → ℕ
+followedEdge n rs s = movedEdge (movesBy n rs s)
 
 -- node g of the table `first` is node k of the table rs of n inputs and m gates, after so many inversion steps that named it
 pub record Present (n m : ℕ) (first rs : List Record) (g k named : ℕ) : Type 0 where

@@ -57,6 +57,19 @@ isSweep Sweep = true
 isSweep Voter = false
 isSweep Opposite = false
 
+-- inversion, the one rule that inverts a gate
+abbrev pub isInversion : Rule → Bool
+isInversion Exchange = false
+isInversion Majority = false
+isInversion Associativity = false
+isInversion Outward = false
+isInversion Inward = false
+isInversion Inversion = true
+isInversion Share = false
+isInversion Sweep = false
+isInversion Voter = false
+isInversion Opposite = false
+
 -- among n inputs and m gates, node g is a gate
 abbrev pub isGate : ℕ → ℕ → ℕ → Bool
 isGate n m g = ltb n g && leb g (n + m)

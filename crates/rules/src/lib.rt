@@ -23,7 +23,7 @@ pub use gates::outward_first;
 pub use gates::outward_gate;
 pub use gates::outward_second;
 ghost use mathlib.Core.Path.{_≡_};
-ghost use Rattle.rules.specs.Step.{ruleOf, saidRule, isSweep};
+ghost use Rattle.rules.specs.Step.{ruleOf, saidRule, isSweep, isInversion};
 
 // A step: the number of its rule, and its three fields.
 pub struct Step {
@@ -93,6 +93,24 @@ pub fn is_sweep(rule: Rule) -> bool
         Rule::Inversion => false,
         Rule::Share => false,
         Rule::Sweep => true,
+        Rule::Voter => false,
+        Rule::Opposite => false,
+    }
+}
+
+// The rule is inversion, the one that inverts a gate.
+pub fn is_inversion(rule: Rule) -> bool
+    ensures { λ r. ⌜ r ≡ isInversion rule ⌝ }
+{
+    match rule {
+        Rule::Exchange => false,
+        Rule::Majority => false,
+        Rule::Associativity => false,
+        Rule::Outward => false,
+        Rule::Inward => false,
+        Rule::Inversion => true,
+        Rule::Share => false,
+        Rule::Sweep => false,
         Rule::Voter => false,
         Rule::Opposite => false,
     }
