@@ -75,6 +75,13 @@ module _ {xs : List ℕ} {c : Counts} (sound : Sound xs c) where
   pub close-start : {ns : List ℕ} → Numbered (λ k. k) n ns → ClosedUp xs c n n xs ns
   close-start numbers = record { place = sym (number-input formed n (omega arith)); numbers = numbered-inputs formed numbers; bytes = closed-start }
 
+  -- a gate stays where it is marked
+  pub mark-stays : {marks : List Bool} → Marked (reached t) marks → (i : ℕ) → n ≤ i → i < n + m → getD marks (i + 1) false ≡ stays t (suc i)
+  mark-stays marked i p q =
+      let limits = sound-accepted sound .limits in
+      let e : i + 1 ≡ suc i = omega arith in
+      rw e (marked .marked (suc i) (omega arith) (omega arith) ∙ sym (gate-stays formed i p q))
+
   -- one gate further
   module _ {ys ns : List ℕ} (i to : ℕ) (p : n ≤ i) (q : i < n + m) (is : ClosedUp xs c i to ys ns) where
     pub close-below : (r : Record) → r ≡ recordAt (tableOf ys (length ys / 8)) i → Below (suc i) r
@@ -84,17 +91,11 @@ module _ {xs : List ℕ} {c : Counts} (sound : Sound xs c) where
     close-place = omega (arith, is .place, number-lower t i)
 
     module _ {marks : List Bool} (marked : Marked (reached t) marks) where
-      own-mark : getD marks (i + 1) false ≡ stays t (suc i)
-      own-mark =
-          let limits = sound-accepted sound .limits in
-          let e : i + 1 ≡ suc i = omega arith in
-          rw e (marked .marked (suc i) (omega arith) (omega arith) ∙ sym (gate-stays formed i p q))
-
       pub close-keep : getD marks (i + 1) false ≡ true → (r r′ : Record) → r ≡ recordAt (tableOf ys (length ys / 8)) i → r′ ≡ edges (renumberBy ns) r
           → ClosedUp xs c (i + 1) (to + 1) (putRecord ys to r′) (set ns (i + 1) (to + 1))
       close-keep on r r′ e e′ =
           let limits = sound-accepted sound .limits in
-          let s = sym own-mark ∙ on in
+          let s = sym (mark-stays marked i p q) ∙ on in
           let next : to + 1 ≡ newNumber t (i + 1) = omega (arith, is .place, number-in t i s) in
           let low = close-below r e in
           let whole : r′ ≡ edges (renumber (stays t)) (recordAt t i) =
@@ -109,7 +110,7 @@ module _ {xs : List ℕ} {c : Counts} (sound : Sound xs c) where
       pub close-drop : getD marks (i + 1) false ≡ false → ClosedUp xs c (i + 1) to ys (set ns (i + 1) to)
       close-drop off =
           let limits = sound-accepted sound .limits in
-          let s = sym own-mark ∙ off in
+          let s = sym (mark-stays marked i p q) ∙ off in
           let next : to ≡ newNumber t (i + 1) = omega (arith, is .place, number-out t i s) in
           record {
             place = next;

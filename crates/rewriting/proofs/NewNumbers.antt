@@ -61,10 +61,13 @@ module _ (t : List Record) where
   number-lower i = kept-lower (stays t) i
 
   -- an edge and a record, where the nodes that they name are numbered
+  pub renumbered-by : (ns : List ℕ) (x : ℕ) → getD ns (nodeOf x) 0 ≡ newNumber t (nodeOf x) → renumberBy ns x ≡ renumber (stays t) x
+  unfolding renumberBy renumber newNumber
+  renumbered-by ns x e = rw e
+
   module _ {i : ℕ} {ns : List ℕ} (is : Numbered (newNumber t) i ns) where
     renumbered-edge : (x : ℕ) → nodeOf x < suc i → renumberBy ns x ≡ renumber (stays t) x
-    unfolding renumberBy renumber newNumber
-    renumbered-edge x h = rw (is .numbers (nodeOf x) (omega arith))
+    renumbered-edge x h = renumbered-by ns x (is .numbers (nodeOf x) (omega arith))
 
     pub renumbered-edges : (r : Record) → Below (suc i) r → edges (renumberBy ns) r ≡ edges (renumber (stays t)) r
     renumbered-edges r low =

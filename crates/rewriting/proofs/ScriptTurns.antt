@@ -5,7 +5,7 @@ use mathlib.Core.List.{List, _∷_}
 use native.Mathlib.Numerals.{add-one}
 use native.Mathlib.Omega.{arith}
 use lib.ListN.{length}
-use Rattle.refusals.specs.Why.{Why}
+use Rattle.refusals.specs.Why.{Why, whyOf}
 use Rattle.refusals.specs.Reply.{Reply, accepted, refused, andThen}
 use Rattle.rules.specs.declared.Step.{Step}
 use Rattle.majority.specs.declared.Record.{Record}
@@ -42,6 +42,16 @@ module _ (xs : List ℕ) (p p′ : Progress) (s : Step) (rest : List Step) where
       absurd (omega arith)
 
   -- a turn that stops
+  pub turn-refused : (o : Stepped) → p′ ≡ progressAfter p o → saidStep o ≡ stepOf xs (p .used) s → {refusal : Refusal} → p′ .ending ≡ Stopped refusal → stepOf xs (p .used) s ≡ refused (whyOf refusal)
+  turn-refused (Used n) e said {refusal} shut =
+      let going : Finished ≡ Stopped refusal = ap (λ (q : Progress). q .ending) (sym e) ∙ shut in
+      let z : _≡_ {A = ℕ} 0 1 = cc in
+      absurd (omega arith)
+  turn-refused (Refused x) e said {refusal} shut =
+      let same : Stopped x ≡ Stopped refusal = ap (λ (q : Progress). q .ending) (sym e) ∙ shut in
+      let one : x ≡ refusal = cc in
+      sym said ∙ ap (λ (y : Refusal). refused (whyOf y)) one
+
   pub turn-off : (o : Stepped) → p′ ≡ progressAfter p o → saidStep o ≡ stepOf xs (p .used) s → {refusal : Refusal} → p′ .ending ≡ Stopped refusal
       → runOf p′ (stepBytes xs (p .used) s) ≡ runFrom (p .taken) xs (p .used) (s ∷ rest)
   unfolding runBy

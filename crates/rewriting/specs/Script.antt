@@ -1,6 +1,6 @@
 -- Scripts (SPEC 5.5): steps are taken in order until one is refused, each with the used length that the one before replied.
 use Prim.Native.Nat.{ℕ, zero, suc, _+_, _-_, _/_, _%_}
-use mathlib.Core.Bool.{not}
+use mathlib.Core.Bool.{Bool, not}
 use mathlib.Core.List.{List, [], _∷_}
 use lib.Dec.{eqb}
 use lib.ListN.{length}
@@ -44,6 +44,10 @@ stepsFrom xs i (suc k) = stepAt xs i ∷ stepsFrom xs (suc i) k
 abbrev pub stepsOf : List ℕ → List Step
 stepsOf xs = stepsFrom xs 0 (length xs / 8)
 
+-- the script is a whole number of steps long
+abbrev pub whole : List ℕ → Bool
+whole xs = eqb (length xs % 8) 0
+
 -- what follows an accepted step, or a refused one
 abbrev pub byReply : {A : Type 0} → Reply ℕ → (ℕ → A) → (Why → A) → A
 byReply (accepted used) on stop = on used
@@ -65,7 +69,7 @@ module _ (reply : List ℕ → ℕ → Step → Reply ℕ) (left : List ℕ → 
 
   abbrev pub afterCheck : Reply Counts → List ℕ → ℕ → List ℕ → Run
   afterCheck (refused w) xs used steps = untaken w xs used
-  afterCheck (accepted c) xs used steps = if not (eqb (length steps % 8) 0) then untaken (why 12) xs used else runBy 0 xs used (stepsOf steps)
+  afterCheck (accepted c) xs used steps = if not (whole steps) then untaken (why 12) xs used else runBy 0 xs used (stepsOf steps)
 
   -- a script: refusals 1 to 5 of the table, then 12, then its steps
   unfoldable pub scriptBy : List ℕ → ℕ → List ℕ → Run

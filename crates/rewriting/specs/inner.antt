@@ -5,3 +5,4 @@ pub mod ClosedUp  -- how far sweep has closed up
 pub mod Swept  -- what sweep leaves
 pub mod Applied  -- what a step makes of a buffer whose table was checked
 pub mod Copied  -- what copying gates leaves in a buffer
+pub mod Places  -- the places of followed gates, one step on

@@ -1,6 +1,7 @@
 // Steps and scripts on a table in a lent slice.
 mod applying;
 mod changing;
+mod following;
 mod forms;
 mod nodes;
 mod running;
@@ -8,16 +9,20 @@ mod sweeping;
 mod voting;
 
 use applying::take;
+use following::start;
 use refusals::Refusal;
 use rules::Step;
 use running::run;
 use running::stopped;
+use running::uneven;
 use tables::Checked;
 use tables::check;
 ghost use mathlib.Core.Path.{_≡_};
 ghost use Prim.Native.Nat.{_<_};
+ghost use lib.ListN.{length};
 ghost use Rattle.rewriting.specs.Calls.{saidStep, stepOf, stepBytes};
 ghost use Rattle.rewriting.specs.Script.{progressAfter, runOf, scriptRun};
+ghost use Rattle.rewriting.specs.Follow.{followRun, placesAfter};
 
 // What a step replies: the new used length, or the refusal.
 pub enum Stepped {
@@ -82,11 +87,33 @@ pub fn script(s: &mut [u8], used: usize, steps: &[u8]) -> Progress
 {
     match check(s, used) {
         Checked::Accepted(counts) => {
-            if steps.len() % 8 != 0 {
+            if uneven(steps) {
                 return stopped(used, Refusal::Script);
             }
-            run(s, counts, steps)
+            let mut none = [0u16; 0];
+            run(s, counts, steps, &mut none, 0)
         }
         Checked::Refused(refusal) => stopped(used, refusal),
+    }
+}
+
+// Takes the steps of a script as `script` does, and leaves in the place of each gate of the first table the edge that has its first value then, or 0
+// where it was swept away.
+pub fn follow(s: &mut [u8], used: usize, steps: &[u8], places: &mut [u16]) -> Progress
+    ensures run { λ r. ⌜ runOf r (now (s .exit)) ≡ followRun (now (s .entry)) used (now (steps .entry)) (length (now (places .entry))) ⌝ }
+    ensures places { λ _. ⌜ now (places .exit) ≡ placesAfter (now (s .entry)) used (now (steps .entry)) (now (places .entry)) ⌝ }
+{
+    match check(s, used) {
+        Checked::Accepted(counts) => {
+            if uneven(steps) {
+                return stopped(used, Refusal::Script);
+            }
+            if places.len() < counts.gates {
+                return stopped(used, Refusal::Room);
+            }
+            start(places, counts.inputs, counts.gates);
+            run(s, counts, steps, places, counts.gates)
+        }
+        Checked::Refused(why) => stopped(used, why),
     }
 }

@@ -16,6 +16,7 @@ ghost use Rattle.rules.specs.Sweep.{reached};
 ghost use Rattle.tables.specs.Sound.{Sound, tableIn, Fresh};
 ghost use Rattle.rewriting.specs.inner.Marks.{reachedBy, Marked, markNames};
 ghost use Rattle.rewriting.specs.inner.ClosedUp.{newNumber, Lower, Numbered, renumberBy, Closed, ClosedUp, Movable, Moved};
+ghost use Rattle.rewriting.specs.inner.Places.{numberLeft};
 ghost use Rattle.rewriting.specs.inner.Swept.{Swept};
 
 // Marks the node that an edge names.
@@ -84,7 +85,7 @@ fn number_inputs(numbers: &mut [u16; 1057], inputs: usize)
 }
 
 // The edge with its node's new number.
-fn renumbered(numbers: &[u16; 1057], edge: u16) -> u16
+pub(crate) fn renumbered(numbers: &[u16; 1057], edge: u16) -> u16
     requires { ⌜ (nodeOf edge < 1057) × Lower (now numbers) ⌝ }
     ensures { λ r. ⌜ r ≡ renumberBy (now (numbers .entry)) edge ⌝ }
 {
@@ -152,6 +153,28 @@ fn close_up(s: &mut [u8], counts: Counts, marks: &[bool; 1057]) -> usize
     let place = close_gates(s, counts, marks, &mut numbers);
     close_outputs(s, counts, place, &numbers);
     place
+}
+
+// Numbers the nodes that sweep leaves, as they close up, with 0 for each gate that it drops.
+pub(crate) fn number_left(numbers: &mut [u16; 1057], s: &[u8], counts: Counts)
+    requires { ⌜ Sound (now s) counts × Fresh 0 (now numbers) ⌝ }
+    ensures { λ _. ⌜ Numbered (numberLeft (tableIn (now (s .entry)) counts)) (counts .inputs + counts .gates) (now (numbers .exit)) ⌝ }
+{
+    let mut marks = [false; 1057];
+    mark_reached(&mut marks, s, counts);
+    number_inputs(numbers, counts.inputs);
+    let mut last = counts.inputs;
+    let mut i = counts.inputs;
+    while i < counts.inputs + counts.gates {
+        let stays = marks[i + 1];
+        let mut number = 0;
+        if stays {
+            last += 1;
+            number = last as u16;
+        }
+        numbers[i + 1] = number;
+        i += 1;
+    }
 }
 
 // Drops every gate that no output reaches, closes up and clears what is freed; answers how many gates are left.
