@@ -27,3 +27,4 @@ pub mod ThroughSteps  -- what goes along with a script, one turn at a time
 mod NumbersLeft  -- the numbers of the nodes that sweep leaves, and edges by them
 mod FollowedPlaces  -- the places after a step, by its rule
 mod Follows  -- what following gates is, from the check, the script's length and the number of places
+pub mod PlacesAfter  -- what stands in each place after gates were followed
