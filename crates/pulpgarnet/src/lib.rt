@@ -3,8 +3,10 @@ use refusals::refusal_edge;
 use refusals::refusal_number;
 use refusals::refusal_record;
 use rewriting::Ending;
+use rewriting::Progress;
 use rules::Step;
 ghost use mathlib.Core.Path.{_≡_};
+ghost use mathlib.Core.List.{[]};
 ghost use lib.ListN.{length};
 ghost use Rattle.tables.specs.Calls.{checkOf};
 ghost use Rattle.questions.specs.Said.{saidValue, saidReport};
@@ -13,7 +15,8 @@ ghost use Rattle.questions.specs.Claimed.{claimedEvaluate, claimedReport};
 ghost use Rattle.reading.specs.Held.{claim};
 ghost use Rattle.rules.specs.Step.{stepWith};
 ghost use Rattle.rewriting.specs.Calls.{stepOf, stepBytes};
-ghost use Rattle.rewriting.specs.Script.{scriptRun};
+ghost use Rattle.rewriting.specs.Script.{runOf, scriptRun};
+ghost use Rattle.rewriting.specs.Follow.{followRun, placesAfter};
 ghost use Rattle.rm3.specs.Calls.{translateOf, translateBytes, depthOf};
 ghost use Rattle.pulpgarnet.specs.Replies.{checkedReply, valuedReply, reportedReply, steppedReply, ranReply, writtenReply, deepReply};
 
@@ -188,13 +191,9 @@ pub extern "C" fn pulpgarnet_step(
     }
 }
 
-// A script: the steps taken and the used length, also where it was stopped.
-#[no_mangle]
-pub extern "C" fn pulpgarnet_script(table: &mut [u8], used: usize, steps: &[u8]) -> Ran
-    ensures reply { λ r. ⌜ r ≡ ranReply (scriptRun (now (table .entry)) used (now (steps .entry))) ⌝ }
-    ensures bytes { λ _. ⌜ now (table .exit) ≡ scriptRun (now (table .entry)) used (now (steps .entry)) .bytes ⌝ }
+fn ran_reply(done: Progress) -> Ran
+    ensures { λ r. ⌜ r ≡ ranReply (runOf done []) ⌝ }
 {
-    let done = rewriting::script(table, used, steps);
     let ending = done.ending;
     match ending {
         Ending::Finished => Ran {
@@ -212,6 +211,30 @@ pub extern "C" fn pulpgarnet_script(table: &mut [u8], used: usize, steps: &[u8])
             used: done.used,
         },
     }
+}
+
+// A script: the steps taken and the used length, also where it was stopped.
+#[no_mangle]
+pub extern "C" fn pulpgarnet_script(table: &mut [u8], used: usize, steps: &[u8]) -> Ran
+    ensures reply { λ r. ⌜ r ≡ ranReply (scriptRun (now (table .entry)) used (now (steps .entry))) ⌝ }
+    ensures bytes { λ _. ⌜ now (table .exit) ≡ scriptRun (now (table .entry)) used (now (steps .entry)) .bytes ⌝ }
+{
+    ran_reply(rewriting::script(table, used, steps))
+}
+
+// The same, and in the place of each gate of the first table the edge that has its first value then, or 0.
+#[no_mangle]
+pub extern "C" fn pulpgarnet_follow(
+    table: &mut [u8],
+    used: usize,
+    steps: &[u8],
+    places: &mut [u16],
+) -> Ran
+    ensures reply { λ r. ⌜ r ≡ ranReply (followRun (now (table .entry)) used (now (steps .entry)) (length (now (places .entry)))) ⌝ }
+    ensures bytes { λ _. ⌜ now (table .exit) ≡ followRun (now (table .entry)) used (now (steps .entry)) (length (now (places .entry))) .bytes ⌝ }
+    ensures places { λ _. ⌜ now (places .exit) ≡ placesAfter (now (table .entry)) used (now (steps .entry)) (now (places .entry)) ⌝ }
+{
+    ran_reply(rewriting::follow(table, used, steps, places))
 }
 
 // The RM3 table, to the beginning of out: its length.
