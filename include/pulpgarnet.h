@@ -2,7 +2,8 @@
  * Pulpgarnet for C and C++: majority tables, rewriting steps and scripts, RM3 tables (docs/SPEC.md). `rt staticlib pulpgarnet`
  * writes the archive, target/staticlib/libpulpgarnet.a, for x86-64.
  *
- * A buffer is a pointer and its length in bytes. The pointer is never null, also at length 0, and has so many bytes behind it.
+ * A buffer is a pointer and its length in bytes, or of numbers a pointer and their count. The pointer is never null, also at length 0,
+ * and has so much behind it.
  * The buffers of one call do not overlap, and nobody writes to them before the call returns. No call keeps a pointer, allocates
  * memory or holds a state, so calls on different buffers may run at the same time.
  *
@@ -10,8 +11,8 @@
  *
  * A reply begins with `refusal`, 0 for none, else 1 to 12 as README.md lists them, `record`, the record that refusals 2, 4 and 5
  * carry, counted from 0, else 0, and `edge`, which of that record's edges refusal 5 means, the first bad one: 1, 2 or 3, else 0.
- * Where a call is refused it has written nothing and all other numbers are 0; pulpgarnet_script says what it does instead. Bytes
- * that a call is not said to write stay as they were.
+ * Where a call is refused it has written nothing and all other numbers are 0; pulpgarnet_script and pulpgarnet_follow say what they
+ * do instead. Bytes that a call is not said to write stay as they were.
  */
 #ifndef PULPGARNET_H
 #define PULPGARNET_H
@@ -53,6 +54,15 @@ struct pulpgarnet_stepped pulpgarnet_step(uint8_t *table, size_t length, size_t 
    `taken` calls of pulpgarnet_step would. Refusals 1 to 5, 7 to 12. */
 struct pulpgarnet_ran pulpgarnet_script(uint8_t *table, size_t length, size_t used,
                                         const uint8_t *steps, size_t steps_length);
+
+/* The same as pulpgarnet_script, and where the gates of the first table stand then. A place is an edge: twice the number of a node, plus
+   1 for its inverse. Place i, counted from 0, is that of the first table's gate i: it becomes the edge that has that gate's first
+   value now, or 0 where the gate was swept away. Places past those of the gates stay; 1,024 are enough for any table. Where there are
+   fewer than gates, which is refused with 11 after 12 and before any step, or where the table or the script's length is refused,
+   nothing is written. Refusals 1 to 5, 7 to 12. */
+struct pulpgarnet_ran pulpgarnet_follow(uint8_t *table, size_t length, size_t used,
+                                        const uint8_t *steps, size_t steps_length,
+                                        uint16_t *places, size_t places_count);
 
 /* Writes the RM3 table to the first `length` bytes of out, and returns that length; the table stays as it was. 25,344 bytes
    are enough for any. Refusals 1 to 5, 11. */

@@ -4,7 +4,7 @@
 
 #include "pulpgarnet.h"
 
-enum { MOST = 65536 };
+enum { MOST = 65536, MOST_PLACES = 8192 };
 
 struct part { size_t length; uint8_t bytes[MOST]; };
 
@@ -113,6 +113,26 @@ static void run(size_t used)
     put_part(&table);
 }
 
+static void follow(size_t used)
+{
+    static uint16_t places[MOST_PLACES];
+    get_part(&script);
+    size_t count = get_number(4);
+    if (count > MOST_PLACES)
+        end("there are too many places");
+    for (size_t i = 0; i < count; i++)
+        places[i] = get_number(2);
+    struct pulpgarnet_ran r = pulpgarnet_follow(table.bytes, table.length, used, script.bytes, script.length, places, count);
+    put_refusal(r.refusal, r.record, r.edge);
+    put_number(r.taken);
+    put_number(r.used);
+    put_part(&table);
+    for (size_t i = 0; i < count; i++) {
+        uint8_t b[2] = {places[i], places[i] >> 8};
+        fwrite(b, 1, sizeof b, stdout);
+    }
+}
+
 static unsigned higher(unsigned a, unsigned b) { return a < b ? b : a; }
 
 /* The depth of the RM3 table that the first bytes of out hold: the highest level among the operands that its outputs name. */
@@ -173,6 +193,8 @@ int main(void)
             on_table(calls[operation - 1]);
         else if (operation == 7 || operation == 8)
             on_reading(operation == 7);
+        else if (operation == 28)
+            on_table(follow);
         else
             end("there is no such operation");
         fflush(stdout);

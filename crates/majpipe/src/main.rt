@@ -4,6 +4,7 @@ mod reply;
 
 use input::Claim;
 use input::Fault;
+use input::MOST_PLACES;
 use input::Part;
 use input::Start;
 use input::Word;
@@ -191,6 +192,35 @@ fn report_reading(records: &[u8], c: Counts) -> Outcome {
     reported(reading::reported_as(records, c.inputs, c.gates, c.outputs))
 }
 
+// The steps taken and the used length, the table as the script left it, and then each place that was lent.
+fn run_followed(table: &mut [u8], used: usize, steps: &[u8], places: &mut [u16]) -> Outcome {
+    let done = rewriting::follow(table, used, steps, places);
+    let ending = done.ending;
+    let reply = ended(ending).number(done.taken).number(done.used);
+    if reply.write() && program::write_whole(STDOUT_FILENO, table) && reply::write_places(places) {
+        return Outcome::Answered;
+    }
+    Outcome::Unwritten
+}
+
+// The same, where the places are still to be read.
+fn follow_by(table: &mut [u8], used: usize, steps: &[u8]) -> Outcome {
+    let mut places = [0u16; MOST_PLACES];
+    match input::read_places(&mut places) {
+        Part::Bytes(count) => run_followed(table, used, steps, &mut places[..count]),
+        Part::Not(fault) => Outcome::Not(fault),
+    }
+}
+
+// Operation 28: the gates followed through a script, which is read here.
+fn follow(table: &mut [u8], used: usize) -> Outcome {
+    let mut buffer = io::large_buffer();
+    match input::read_part(&mut buffer) {
+        Part::Bytes(n) => follow_by(table, used, &buffer[..n]),
+        Part::Not(fault) => Outcome::Not(fault),
+    }
+}
+
 // What stands before the table in a request: its used length or, of a reading, its counts.
 enum Lead {
     Used(usize),
@@ -205,6 +235,7 @@ fn on_table(operation: u8, table: &mut [u8], used: usize) -> Outcome {
         3 => report(table, used),
         4 => step(table, used),
         5 => script(table, used),
+        28 => follow(table, used),
         _ => translate(table, used),
     }
 }
@@ -251,7 +282,7 @@ fn with_counts(operation: u8, buffer: &mut [u8]) -> Outcome {
 // Answers a request that begins with this operation.
 fn on_operation(operation: u8, buffer: &mut [u8]) -> Outcome {
     match operation {
-        1..=6 => with_used(operation, buffer),
+        1..=6 | 28 => with_used(operation, buffer),
         7..=8 => with_counts(operation, buffer),
         _ => Outcome::Unknown(operation),
     }
@@ -275,6 +306,10 @@ fn faulty(program: Program, fault: Fault) -> End {
             line.word(b"a part of ")
                 .number(n as u64)
                 .word(b" bytes is longer than 65536, the most that is allowed"),
+        ),
+        Fault::TooMany(n) => program.failed(
+            line.number(n as u64)
+                .word(b" places are more than 8192, the most that are allowed"),
         ),
         Fault::Unread(error) => program.unread(error),
     }
