@@ -4,42 +4,9 @@ use libc::STDERR_FILENO;
 use libc::STDOUT_FILENO;
 use program::Called;
 use program::End;
-use program::Got;
 use program::Input;
 use program::Program;
-use rewriting::Ending;
-use rewriting::Progress;
-use text::Line;
-
-// The most bytes that a script file may have, and room for one more, to see that it is longer.
-const MOST_BYTES: usize = 262144;
-
-const ROOM: usize = MOST_BYTES + 1;
-
-// The line with how a script ended after its text.
-fn ended(line: Line, ending: Ending) -> Line {
-    match ending {
-        Ending::Finished => line,
-        Ending::Stopped(r) => line.word(b" ").refused(r),
-    }
-}
-
-// The line of a script's reply.
-fn said(progress: Progress) -> Line {
-    let taken = Line::empty().word(b"taken ").number(progress.taken as u64);
-    let ending = progress.ending;
-    ended(taken, ending)
-        .word(b" length ")
-        .number(progress.used as u64)
-}
-
-// How the program ends whose script ended so.
-fn end_of(ending: Ending) -> End {
-    match ending {
-        Ending::Finished => End::Accepted,
-        Ending::Stopped(_) => End::Refused,
-    }
-}
+use scripts::Script;
 
 // Writes the first bytes of a buffer, or all where it has fewer.
 fn write_first(bytes: &[u8], count: usize) -> bool {
@@ -61,7 +28,11 @@ fn answer(
         return program.written(false, End::Accepted);
     }
     let ending = progress.ending;
-    program.put(STDERR_FILENO, said(progress), end_of(ending))
+    program.put(
+        STDERR_FILENO,
+        scripts::said(progress),
+        scripts::end_of(ending),
+    )
 }
 
 // Reads the table, and runs the script on it.
@@ -73,53 +44,13 @@ fn on_table(program: Program, script: &[u8]) -> End {
     }
 }
 
-// Reads the script whole.
-fn on_file(program: Program, fd: i32, path: &[u8]) -> End {
-    let mut buffer = [0u8; ROOM];
-    match program::read_whole(fd, &mut buffer) {
-        Got::Bytes(n) => {
-            if MOST_BYTES < n {
-                return misused(program, b"the script is longer than 262144 bytes");
-            }
-            on_table(program, &buffer[..n])
-        }
-        Got::Failed(error) => unread(program, path, error),
-    }
-}
-
-// Says what is wrong with the call, and how the program is called.
-fn misused(program: Program, wrong: &[u8]) -> End {
-    program.misused(wrong, b"majscript SCRIPT < TABLE > NEW")
-}
-
-// Says why the script could not be read, and how the program is called.
-fn unread(program: Program, path: &[u8], error: i32) -> End {
-    program.unread_file(
-        b"the script",
-        path,
-        error,
-        b"majscript SCRIPT < TABLE > NEW",
-    )
-}
-
-// Opens the script. A file that was opened under one of the first three numbers stands where a standard one should.
+// Reads the script, and runs it.
 fn run(program: Program) -> End {
-    let mut word = io::large_buffer();
-    let len = program.argument(&mut word);
-    let path = &word[..len];
-    let fd = os::open_read(path);
-    if fd < 0 {
-        return unread(program, path, os::errno());
+    let mut buffer = [0u8; scripts::ROOM];
+    match scripts::read_script(program, &mut buffer, b"majscript SCRIPT < TABLE > NEW") {
+        Script::Bytes(n) => on_table(program, &buffer[..n]),
+        Script::None(end) => end,
     }
-    if fd == 0 {
-        return program.unread(libc::EBADF);
-    }
-    if fd < 3 {
-        return program.written(false, End::Accepted);
-    }
-    let end = on_file(program, fd, path);
-    libc::close(fd);
-    end
 }
 
 fn main() {
