@@ -30,7 +30,7 @@ use Rattle.tables.proofs.Sound.{sound-accepted}
 use Rattle.rewriting.specs.Calls.{stepOf}
 use Rattle.rewriting.specs.Script.{countsAt}
 use Rattle.rewriting.specs.Through.{throughSteps}
-use Rattle.rewriting.specs.Follow.{inPlaces, firstPlaces, followedPlaces}
+use Rattle.rewriting.specs.Follow.{inPlaces, firstPlaces, followedPlace, followedPlaces}
 use Rattle.rewriting.specs.inner.Applied.{usedBy, stepIn}
 use Rattle.rewriting.specs.inner.ClosedUp.{Numbered}
 use Rattle.rewriting.specs.inner.Places.{Placed, Places, pastStep, editedEdge, numberLeft, leftBy}
@@ -126,8 +126,8 @@ module _ {xs : List ℕ} {c : Counts} (sound : Sound xs c) (s : Step) (next : �
 
   pub places-next : {k : ℕ} {ps : List ℕ} → Places n m k ps → Places n (countsAt c next .gates) k (followedPlaces n k t s ps)
   places-next {k} {ps} was = record {
-    room = rw (places-length (λ g x. followedEdge n t s x) (suc n) k ps) (was .room);
-    each = λ j h. rw (place-changed (λ g x. followedEdge n t s x) (suc n) k ps j h (omega (arith, was .room))) (moved-placed (getD ps j 0) (was .each j h));
+    room = rw (places-length (followedPlace n t s) (suc n) k ps) (was .room);
+    each = λ j h. rw (place-changed (followedPlace n t s) (suc n) k ps j h (omega (arith, was .room))) (moved-placed (getD ps j 0) (was .each j h));
   }
 
   -- of a known rule

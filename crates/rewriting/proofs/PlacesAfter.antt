@@ -16,7 +16,7 @@ use Rattle.tables.specs.Calls.{checkOf}
 use Rattle.rewriting.specs.Calls.{stepOf, stepBytes}
 use Rattle.rewriting.specs.Script.{byReply, stepsOf, whole, scriptRun}
 use Rattle.rewriting.specs.Through.{throughSteps, throughScript}
-use Rattle.rewriting.specs.Follow.{firstPlaces, followedPlaces, followRun, placesAfter}
+use Rattle.rewriting.specs.Follow.{firstPlaces, followedPlace, followedPlaces, followRun, placesAfter}
 use Rattle.rewriting.proofs.InPlaces.{places-length, place-changed, place-left}
 
 module _ (n m : ℕ) where
@@ -26,8 +26,8 @@ module _ (n m : ℕ) where
   unfolding throughSteps
   through-place [] xs used ps j h l = refl
   through-place (s ∷ steps) xs used ps j h l = go (stepOf xs used s)
-      (λ next. through-place steps (stepBytes xs used s) next (followedPlaces n m (tableOf xs (used / 8)) s ps) j h (rw (places-length (λ g e. followedEdge n (tableOf xs (used / 8)) s e) (suc n) m ps) l)
-      ∙ ap (throughSteps (followedEdge n) (stepBytes xs used s) next steps) (place-changed (λ g e. followedEdge n (tableOf xs (used / 8)) s e) (suc n) m ps j h l))
+      (λ next. through-place steps (stepBytes xs used s) next (followedPlaces n m (tableOf xs (used / 8)) s ps) j h (rw (places-length (followedPlace n (tableOf xs (used / 8)) s) (suc n) m ps) l)
+      ∙ ap (throughSteps (followedEdge n) (stepBytes xs used s) next steps) (place-changed (followedPlace n (tableOf xs (used / 8)) s) (suc n) m ps j h l))
     where
       go : (reply : Reply ℕ)
           → ((next : ℕ) → getD (throughSteps (followedPlaces n m) (stepBytes xs used s) next steps (followedPlaces n m (tableOf xs (used / 8)) s ps)) j 0
@@ -41,7 +41,7 @@ module _ (n m : ℕ) where
   unfolding throughSteps
   through-rest [] xs used ps j h = refl
   through-rest (s ∷ steps) xs used ps j h = go (stepOf xs used s)
-      (λ next. through-rest steps (stepBytes xs used s) next (followedPlaces n m (tableOf xs (used / 8)) s ps) j h ∙ place-left (λ g e. followedEdge n (tableOf xs (used / 8)) s e) (suc n) m ps j h)
+      (λ next. through-rest steps (stepBytes xs used s) next (followedPlaces n m (tableOf xs (used / 8)) s ps) j h ∙ place-left (followedPlace n (tableOf xs (used / 8)) s) (suc n) m ps j h)
     where
       go : (reply : Reply ℕ) → ((next : ℕ) → getD (throughSteps (followedPlaces n m) (stepBytes xs used s) next steps (followedPlaces n m (tableOf xs (used / 8)) s ps)) j 0 ≡ getD ps j 0)
           → getD (byReply reply (λ next. throughSteps (followedPlaces n m) (stepBytes xs used s) next steps (followedPlaces n m (tableOf xs (used / 8)) s ps)) (λ w. ps)) j 0 ≡ getD ps j 0

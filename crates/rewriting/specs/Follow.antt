@@ -26,9 +26,13 @@ inPlaces f g (suc m) (e ∷ ps) = f g e ∷ inPlaces f (suc g) m ps
 abbrev pub firstPlaces : ℕ → ℕ → List ℕ → List ℕ
 firstPlaces n m ps = inPlaces (λ g e. plain g) (suc n) m ps
 
--- and after a step taken on the table rs: of each edge what became of it
+-- what a step taken on the table rs makes of the place of node g, which held the edge e: what becomes of e, which names the node's number of today
+abbrev pub followedPlace : ℕ → List Record → Step → ℕ → ℕ → ℕ
+followedPlace n rs s g e = followedEdge n rs s e
+
+-- and so of each of the places
 abbrev pub followedPlaces : ℕ → ℕ → List Record → Step → List ℕ → List ℕ
-followedPlaces n m rs s ps = inPlaces (λ g e. followedEdge n rs s e) (suc n) m ps
+followedPlaces n m rs s ps = inPlaces (followedPlace n rs s) (suc n) m ps
 
 -- of so many places there are fewer than the table has gates. This comes after 12
 abbrev pub lacks : Reply Counts → List ℕ → ℕ → Bool
