@@ -1,13 +1,13 @@
 //! The evaluator's own answer to a request, as the reply that must come back.
 
-use crate::request::Request;
+use crate::request::{place_bytes, Request};
 use crate::rm3::translate;
 use crate::script::{self, Progress};
 use crate::step;
 use crate::table::{Network, Refusal};
 use crate::value::{depth, evaluate, size};
 
-/// A reply: the refusal or none, the call's numbers, and the bytes of the buffer it may write.
+/// A reply: the refusal or none, the call's numbers, and the bytes of the buffer it may write, then those of the places.
 #[derive(Clone, PartialEq, Eq, Debug)]
 pub struct Answer {
     pub refusal: Option<Refusal>,
@@ -22,7 +22,7 @@ pub fn number_names(operation: u8) -> &'static [&'static str] {
         2 | 7 => &["outputs' number"],
         3 | 8 => &["size", "depth"],
         4 => &["new used length"],
-        5 => &["steps taken", "used length"],
+        5 | 28 => &["steps taken", "used length"],
         _ => &["length"],
     }
 }
@@ -89,5 +89,11 @@ pub fn answer(request: &Request) -> Answer {
             Answer::of(value.map(|value| [value]), vec![])
         }
         Request::ReadingReport(reading) => Answer::of(reading.network().map(report), vec![]),
+        Request::Follow(follow) => {
+            let mut bytes = follow.table.buffer.clone();
+            let (progress, probes) = follow.run(&mut bytes);
+            bytes.extend(place_bytes(&follow.written(&probes)));
+            Answer::of_script(progress, bytes)
+        }
     }
 }

@@ -1,8 +1,10 @@
-//! What a run met: requests, accepted ones, rules, refusals with their edges, first two edges, stored scripts, RM3 patterns.
+//! What a run met: requests, accepted ones, rules, refusals with their edges, first two edges, stored scripts, RM3 patterns, followed
+//! gates.
 
 use crate::answer::Answer;
 use crate::depth_counts::DepthCounts;
-use crate::request::{Request, CALLS};
+use crate::follow_counts::FollowCounts;
+use crate::request::{call, operations, Request, PAST_OPERATIONS};
 use crate::rm3::class;
 use crate::step::{FirstTwo, Step, LAST_RULE};
 use crate::stored_counts::StoredCounts;
@@ -15,18 +17,19 @@ const BY_FIRST_TWO: [u16; 2] = [2, 10];
 
 #[derive(Default)]
 pub struct Counts {
-    asked: [usize; 9],
-    accepted: [usize; 9],
-    refusals: [[usize; 13]; 9],
+    asked: [usize; PAST_OPERATIONS],
+    accepted: [usize; PAST_OPERATIONS],
+    refusals: [[usize; 13]; PAST_OPERATIONS],
     /// Refusals 5, by operation and by the edge that they carry.
-    edges: [[usize; 4]; 9],
+    edges: [[usize; 4]; PAST_OPERATIONS],
     /// Accepted steps, by operation and rule.
-    rules: [[usize; RULES + 1]; 9],
+    rules: [[usize; RULES + 1]; PAST_OPERATIONS],
     /// Steps that were refused, single ones and those that stopped a script, by rule and refusal.
     refused_steps: [[usize; 13]; RULES + 1],
     /// Single steps of rule 2 and of rule 10 that came to look at their gate, by its first two edges.
     first_two: [[usize; 3]; 2],
     stored: StoredCounts,
+    follow: FollowCounts,
     patterns: [usize; 27],
     longest: u32,
     depths: DepthCounts,
@@ -37,7 +40,7 @@ pub fn possible(operation: u8) -> &'static [usize] {
     match operation {
         2 | 7 => &[1, 2, 3, 4, 5, 6],
         4 => &[1, 2, 3, 4, 5, 7, 8, 9, 10, 11],
-        5 => &[1, 2, 3, 4, 5, 7, 8, 9, 10, 11, 12],
+        5 | 28 => &[1, 2, 3, 4, 5, 7, 8, 9, 10, 11, 12],
         6 => &[1, 2, 3, 4, 5, 11],
         _ => &[1, 2, 3, 4, 5],
     }
@@ -92,10 +95,16 @@ impl Counts {
                     self.first_two[asked][FirstTwo::of(gate) as usize] += 1;
                 }
             }
-            Request::Script(_, script) => self.note_script(script, answer),
+            Request::Script(_, script) => self.note_script(operation, script, answer),
             Request::Stored(stored) => {
-                self.note_script(&stored.converted, answer);
+                self.note_script(operation, &stored.converted, answer);
                 self.stored.note(stored, answer);
+            }
+            Request::Follow(follow) => {
+                if follow.first().is_ok() {
+                    self.note_script(operation, &follow.script, answer);
+                }
+                self.follow.note(follow, answer);
             }
             Request::Rm3(table, _) if answer.refusal.is_none() => {
                 for gate in table.network().iter().flat_map(|network| &network.gates) {
@@ -107,12 +116,12 @@ impl Counts {
         }
     }
 
-    fn note_script(&mut self, script: &[u8], answer: &Answer) {
+    fn note_script(&mut self, operation: usize, script: &[u8], answer: &Answer) {
         let taken = answer.numbers[0];
         self.longest = self.longest.max(taken);
         let steps: Vec<Step> = records(script).into_iter().map(Step::of).collect();
         let (taken, left) = steps.split_at(taken as usize);
-        taken.iter().for_each(|&step| self.rules[5][rule_of(step)] += 1);
+        taken.iter().for_each(|&step| self.rules[operation][rule_of(step)] += 1);
         if let (Some(refusal), Some(&step)) = (answer.refusal, left.first()) {
             self.refused_steps[rule_of(step)][refusal.number as usize] += 1;
         }
@@ -130,7 +139,7 @@ impl Counts {
             lines.extend(never.map(|number| format!("never met: refusal {number} of operation {operation}")));
             let edges = (1..=3).filter(|&edge| self.edges[place][edge] == 0);
             lines.extend(edges.map(|edge| format!("never met: refusal 5 with edge {edge} of operation {operation}")));
-            let rules = (1..=RULES).filter(|&rule| (operation == 4 || operation == 5) && self.rules[place][rule] == 0);
+            let rules = (1..=RULES).filter(|&rule| matches!(operation, 4 | 5 | 28) && self.rules[place][rule] == 0);
             lines.extend(rules.map(|rule| format!("never met: rule {rule} accepted by operation {operation}")));
             for rule in (1..=RULES).filter(|_| operation == 4) {
                 let never = possible_of_rule(rule).iter().filter(|&&number| self.refused_steps[rule][number] == 0);
@@ -142,6 +151,9 @@ impl Counts {
             if operation == 5 {
                 lines.extend(self.stored.never_met());
             }
+            if operation == 28 {
+                lines.extend(self.follow.never_met());
+            }
             if operation == 6 && self.patterns.contains(&0) {
                 lines.push("never met: one of the 27 RM3 patterns".to_string());
             }
@@ -152,15 +164,16 @@ impl Counts {
 
     /// A few lines on what the operations that were asked met.
     pub fn report(&self) -> String {
-        let asked: Vec<u8> = (1..=8).filter(|&operation| self.asked[usize::from(operation)] > 0).collect();
+        let asked = operations().into_iter().filter(|&operation| self.asked[usize::from(operation)] > 0);
+        let asked: Vec<u8> = asked.collect();
         let mut lines = Vec::new();
-        for place in asked.iter().map(|&operation| usize::from(operation)) {
-            let (asked, accepted) = (self.asked[place], self.accepted[place]);
-            lines.push(format!("operation {place} ({}): {asked} requests, {accepted} accepted", CALLS[place]));
+        for &operation in &asked {
+            let [asked, accepted] = [self.asked, self.accepted].map(|counts| counts[usize::from(operation)]);
+            lines.push(format!("operation {operation} ({}): {asked} requests, {accepted} accepted", call(operation)));
         }
-        if asked.contains(&4) || asked.contains(&5) {
+        if [4, 5, 28].iter().any(|operation| asked.contains(operation)) {
             lines.extend((1..=RULES).map(|rule| {
-                let (single, scripted) = (self.rules[4][rule], self.rules[5][rule]);
+                let (single, scripted) = (self.rules[4][rule], self.rules[5][rule] + self.rules[28][rule]);
                 let refused = |&number: &usize| format!(", {} refused {number}", self.refused_steps[rule][number]);
                 let refused: String = possible_of_rule(rule).iter().map(refused).collect();
                 format!("rule {rule}: {single} single steps and {scripted} script steps accepted{refused}")
@@ -177,9 +190,14 @@ impl Counts {
         }
         let edges = [1, 2, 3].map(|edge| self.edges.iter().map(|edges| edges[edge]).sum::<usize>());
         lines.push(format!("bad edge: first {} times, second {}, third {}", edges[0], edges[1], edges[2]));
-        if asked.contains(&5) {
+        if asked.contains(&5) || asked.contains(&28) {
             lines.push(format!("longest script: {} steps taken", self.longest));
+        }
+        if asked.contains(&5) {
             lines.extend(self.stored.report());
+        }
+        if asked.contains(&28) {
+            lines.extend(self.follow.report());
         }
         if asked.contains(&6) {
             let met = self.patterns.iter().filter(|&&count| count > 0).count();

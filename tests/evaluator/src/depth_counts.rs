@@ -1,7 +1,7 @@
 //! How often a run met tables with gates above their depth, and RM3 tables with operations above theirs.
 
 use crate::answer::Answer;
-use crate::request::Request;
+use crate::request::{Request, PAST_OPERATIONS};
 use crate::rm3::translate;
 use crate::value::{depth, highest_level};
 
@@ -11,9 +11,9 @@ const OPERATIONS: [u8; 5] = [3, 4, 5, 6, 8];
 #[derive(Default)]
 pub struct DepthCounts {
     /// Accepted requests on such tables, by operation.
-    above: [usize; 9],
+    above: [usize; PAST_OPERATIONS],
     /// Those among them whose depth is 0.
-    above_none: [usize; 9],
+    above_none: [usize; PAST_OPERATIONS],
 }
 
 /// The depth of the table that the request is about, or of its RM3 table, and the highest level there.

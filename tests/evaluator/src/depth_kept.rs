@@ -1,6 +1,7 @@
 //! What steps keep of depth, told from a request and its reply alone.
 
 use crate::answer::Answer;
+use crate::follow::Follow;
 use crate::request::Request;
 use crate::table::{read, records};
 use crate::value::depth;
@@ -20,7 +21,7 @@ pub fn keeps_depth(rule: u16) -> bool {
 pub fn depth_fault(request: &Request, answer: &Answer) -> Option<String> {
     let (table, rules, used) = match request {
         Request::Step(table, step) if answer.refusal.is_none() => (table, vec![step.rule], answer.numbers[0]),
-        Request::Script(table, script) => {
+        Request::Script(table, script) | Request::Follow(Follow { table, script, .. }) => {
             let taken = records(script).into_iter().take(answer.numbers[0] as usize);
             (table, taken.map(|step| step[0]).collect(), answer.numbers[1])
         }

@@ -4,11 +4,11 @@
 use crate::answer::{answer, Answer};
 use crate::cases::Dealer;
 use crate::depth_kept_tests::swept;
-use crate::request::{Request, Table};
+use crate::request::{operations, Request, Table};
 use crate::rm3::{class, translate, Class};
 use crate::sheet::network;
 use crate::table::Network;
-use crate::tests::against;
+use crate::tests::{against, GATE};
 use crate::value::{depth, highest_level, level_of, output_levels};
 use std::collections::BTreeMap;
 
@@ -114,9 +114,9 @@ fn rm3_marks(network: &Network) -> Vec<&'static str> {
 /// The gate's requests deal every kind of table that depth tells apart, to both reports and to the translation.
 #[test]
 fn every_depth_is_dealt() {
-    let mut dealer = Dealer::new(1, &[1, 2, 3, 4, 5, 6, 7, 8]);
+    let mut dealer = Dealer::new(1, &operations());
     let mut met = BTreeMap::<(u8, &str), usize>::new();
-    for _ in 0..10_000 {
+    for _ in 0..GATE {
         let request = dealer.deal().request;
         let marks = match &request {
             Request::Report(table) => table.network().map(|network| marks(&network)),

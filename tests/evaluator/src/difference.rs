@@ -2,9 +2,9 @@
 
 use crate::answer::{number_names, Answer};
 use crate::random::Random;
-use crate::request::{Request, CALLS};
+use crate::request::{call, Request};
 use crate::rm3::Rm3;
-use crate::value::{depth, outputs};
+use crate::value::{depth, outputs, some_assignments};
 
 /// Bytes in hex, the first ones of a long part only.
 fn hex(bytes: &[u8]) -> String {
@@ -18,7 +18,7 @@ fn hex(bytes: &[u8]) -> String {
 /// The request's parts in hex, one a line.
 pub fn describe(request: &Request) -> String {
     let operation = request.operation();
-    let mut text = format!("operation {operation} ({})\n", CALLS[usize::from(operation)]);
+    let mut text = format!("operation {operation} ({})\n", call(operation));
     for (name, bytes) in request.parts() {
         text += &format!("  {name}: {}\n", hex(&bytes));
     }
@@ -28,11 +28,15 @@ pub fn describe(request: &Request) -> String {
     text
 }
 
-/// One line for each number that differs, and one for the bytes; none where the reply is the answer.
-pub fn differences(operation: u8, answer: &Answer, reply: &[u8]) -> Vec<String> {
+/// One line for each number that differs, and some for the buffer's bytes and the places; none where the reply is the answer.
+pub fn differences(request: &Request, answer: &Answer, reply: &[u8]) -> Vec<String> {
     let expected = answer.bytes();
-    let names = ["refusal", "record", "edge"].iter().chain(number_names(operation));
+    let names = ["refusal", "record", "edge"].iter().chain(number_names(request.operation()));
     let head = 4 * names.clone().count();
+    let end = match request {
+        Request::Follow(follow) => head + follow.table.buffer.len(),
+        _ => expected.len(),
+    };
     let number = |bytes: &[u8], at: usize| u32::from_le_bytes([bytes[at], bytes[at + 1], bytes[at + 2], bytes[at + 3]]);
     let mut lines = Vec::new();
     for (place, name) in names.enumerate() {
@@ -42,12 +46,21 @@ pub fn differences(operation: u8, answer: &Answer, reply: &[u8]) -> Vec<String> 
         }
     }
     let differ = |at: &usize| expected[*at] != reply[*at];
-    if let Some(at) = (head..expected.len()).find(differ) {
-        let whole = (head..expected.len()).filter(differ).count();
+    if let Some(at) = (head..end).find(differ) {
+        let whole = (head..end).filter(differ).count();
         let from = head + (at - head) / 8 * 8;
         lines.push(format!("{whole} bytes of the buffer differ, first byte {}", at - head));
-        lines.push(format!("  from byte {} expected {}", from - head, hex(&expected[from..])));
-        lines.push(format!("  from byte {} got      {}", from - head, hex(&reply[from..])));
+        lines.push(format!("  from byte {} expected {}", from - head, hex(&expected[from..end])));
+        lines.push(format!("  from byte {} got      {}", from - head, hex(&reply[from..end])));
+    }
+    let places = |bytes: &[u8]| -> Vec<u16> {
+        bytes[end..].chunks_exact(2).map(|two| u16::from_le_bytes([two[0], two[1]])).collect()
+    };
+    let pairs: Vec<_> = places(&expected).into_iter().zip(places(reply)).enumerate().collect();
+    let differing: Vec<_> = pairs.iter().filter(|(_, (wanted, got))| wanted != got).collect();
+    if let Some((at, (wanted, got))) = differing.first() {
+        let whole = differing.len();
+        lines.push(format!("{whole} of {} places differ, first place {at}: expected {wanted}, got {got}", pairs.len()));
     }
     lines
 }
@@ -69,12 +82,7 @@ pub fn rm3_faults(request: &Request, answer: &Answer, random: &mut Random) -> Op
     if rm3.depth() > deepest {
         return Some(format!("RM3 depth {}, at most {deepest} allowed", rm3.depth()));
     }
-    let every = 1u64 << network.inputs;
-    let assignments: Vec<u32> = match network.inputs {
-        0..=10 => (0..every as u32).collect(),
-        _ => (0..24).map(|_| (random.bits() % every) as u32).collect(),
-    };
-    let wrong = |&&assignment: &&u32| outputs(&network, assignment) != rm3.values(assignment);
-    let assignment = assignments.iter().find(wrong)?;
+    let wrong = |&assignment: &u32| outputs(&network, assignment) != rm3.values(assignment);
+    let assignment = some_assignments(random, network.inputs).into_iter().find(wrong)?;
     Some(format!("the RM3 network is worth something else under assignment {assignment:#x}"))
 }

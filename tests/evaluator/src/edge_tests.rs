@@ -3,10 +3,11 @@
 
 use crate::answer::{answer, Answer};
 use crate::cases::Dealer;
-use crate::request::Request;
+use crate::follow::Follow;
+use crate::request::{operations, Request};
 use crate::stored::Stored;
 use crate::table::{census, records, Edge, Record, Refusal};
-use crate::tests::against;
+use crate::tests::{against, GATE};
 use std::cmp::Ordering;
 use std::collections::BTreeMap;
 
@@ -19,6 +20,7 @@ fn records_of(request: &Request) -> Vec<Record> {
         | Request::Step(table, _)
         | Request::Script(table, _)
         | Request::Stored(Stored { table, .. })
+        | Request::Follow(Follow { table, .. })
         | Request::Rm3(table, _) => records(&table.buffer[..table.buffer.len().min(table.used as usize)]),
         Request::ReadingEvaluate(reading, _) | Request::ReadingReport(reading) => records(&reading.records),
     }
@@ -74,10 +76,10 @@ fn marks(records: &[Record], refusal: Refusal) -> Vec<String> {
 /// The gate's requests deal every mixture of sound and bad edges to every operation, each of them often enough.
 #[test]
 fn every_bad_edge_is_dealt() {
-    let mut dealer = Dealer::new(1, &[1, 2, 3, 4, 5, 6, 7, 8]);
+    let mut dealer = Dealer::new(1, &operations());
     let mut met = BTreeMap::<(u8, String), usize>::new();
     let (mut edges, mut several, mut beside) = ([0; 4], 0, 0);
-    for _ in 0..10_000 {
+    for _ in 0..GATE {
         let request = dealer.deal().request;
         let (records, refusal) = (records_of(&request), answer(&request).refusal);
         let Some(refusal) = refusal.filter(|refusal| refusal.number == 4 || refusal.number == 5) else {
@@ -105,7 +107,7 @@ fn every_bad_edge_is_dealt() {
         ["in record 0", "in a record past 255", "before another edge", "before a field", "beside the highest node"];
     let others = outputs.iter().chain(&more).map(|mark| mark.to_string());
     let wanted: Vec<String> = gates.skip(1).chain(others).collect();
-    let each = (1..=8).flat_map(|operation| wanted.iter().map(move |mark| (operation, mark.clone())));
+    let each = operations().into_iter().flat_map(|operation| wanted.iter().map(move |mark| (operation, mark.clone())));
     let never: Vec<_> = each.filter(|mark| !met.contains_key(mark)).collect();
     assert!(never.is_empty(), "never dealt: {never:?}");
     assert!(edges[1..].iter().all(|&count| count >= 200), "{edges:?}");

@@ -3,11 +3,11 @@
 
 use crate::answer::{answer, Answer};
 use crate::cases::Dealer;
-use crate::request::{Request, Table};
+use crate::request::{operations, Request, Table};
 use crate::sheet::{network, step};
 use crate::step::{apply, lay, FirstTwo, Step};
 use crate::table::{Edge, Gate, Network, Refusal, MOST_GATES};
-use crate::tests::against;
+use crate::tests::{against, GATE};
 use std::collections::BTreeMap;
 
 /// Rule 2 takes equal edges alone and redirects to the first, rule 10 opposite ones alone and redirects to the third. Constants
@@ -147,9 +147,9 @@ fn readers(network: &Network, node: usize) -> Vec<&'static str> {
 /// The gate's requests deal each way of the first two edges to both rules, each of them often enough.
 #[test]
 fn every_way_of_the_first_two_edges_is_dealt() {
-    let mut dealer = Dealer::new(1, &[1, 2, 3, 4, 5, 6, 7, 8]);
+    let mut dealer = Dealer::new(1, &operations());
     let mut met = BTreeMap::<String, usize>::new();
-    for _ in 0..10_000 {
+    for _ in 0..GATE {
         if let Request::Step(table, step) = dealer.deal().request {
             let network = table.network().ok().filter(|_| [2, 10, 11, 258, 266].contains(&step.rule));
             for mark in network.iter().flat_map(|network| marks(&table, network, step)) {

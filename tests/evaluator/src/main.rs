@@ -15,7 +15,13 @@ mod difference;
 mod edge_tests;
 #[cfg(test)]
 mod first_two_tests;
+mod follow;
+mod follow_counts;
+#[cfg(test)]
+mod follow_tests;
+mod graph;
 mod pipe;
+mod probes_kept;
 mod random;
 mod reading;
 mod request;
@@ -46,22 +52,23 @@ const HELP: &str = "\
 evaluator [--seed S] [--count N] [--ops 1,2,3,...] [--save FILE] -- PROGRAM [ARGS..]
 
 Starts PROGRAM (majpipe, perhaps behind an emulator) and compares N of its replies with its own answers.
-Of what steps and translations leave it also asks the limits of depth. In 2000 requests or more it must meet tables that
-have gates and depth 0.
+Of what steps and translations leave it also asks the limits of depth, that a step but sweep leaves what stood below its gate, and
+that the gate to which a place of operation 28 leads has its first value. In 2000 requests or more it must meet tables that have
+gates and depth 0.
   --seed S     the run's seed (default 1); the same seed, count and operations give the same run
   --count N    how many requests (default 4000)
-  --ops LIST   the operations to ask, 1 to 8 (default all)
+  --ops LIST   the operations to ask, 1 to 8 and 28 (default all)
   --save FILE  where to write the bytes of the request that met a difference, for PROGRAM's standard input
 
-How the count is spread: of 23 requests operations 1 to 8 get 3, 2, 1, 8, 4, 3, 1 and 1 (those listed keep their
-shares). Each operation deals its kinds of cases from a shuffled deck, so that every kind comes once before one
+How the count is spread: of 27 requests operations 1 to 8 get 3, 2, 1, 8, 4, 3, 1 and 1 and operation 28 gets 4 (those listed
+keep their shares). Each operation deals its kinds of cases from a shuffled deck, so that every kind comes once before one
 comes again beyond its weight, and a kind goes through its variants in turn. Every 100th request of an operation is a
-rare one: a part of 65,536 bytes, or for operation 5 every other time a script of 5,000 to 8,192 steps.
+rare one: a part of 65,536 bytes, or for operations 5 and 28 at times a script of 5,000 to 8,192 steps, or 8,192 places.
 More than half the scripts are stored ones, of the time before rule 10: PROGRAM gets them converted, and must do with
 them what they did then.
 With 2000 requests or more a run fails also when a refusal or a rule of its operations, one of the edges that refusal 5
-carries, a refusal of a rule by operation 4 or 5, equal, opposite or other edges by rule 2 or 10, or a stored script of
-each sort was never met.
+carries, a refusal of a rule by operation 4 or 5, equal, opposite or other edges by rule 2 or 10, a stored script of each
+sort, or what may become of a followed gate was never met.
 The exit status is 0 where all replies are as expected, 1 where not, and 2 for bad usage.
 ";
 
@@ -73,7 +80,7 @@ struct Arguments {
 
 /// The arguments, or what is wrong with them; none where help is wanted.
 fn arguments(mut given: impl Iterator<Item = String>) -> Result<Option<Arguments>, String> {
-    let mut settings = Settings { seed: 1, count: 4000, operations: (1..=8).collect() };
+    let mut settings = Settings { seed: 1, count: 4000, operations: request::operations() };
     let mut save = None;
     loop {
         let option = given.next().ok_or("no program: give -- PROGRAM [ARGS..]")?;
@@ -103,9 +110,10 @@ fn arguments(mut given: impl Iterator<Item = String>) -> Result<Option<Arguments
 
 /// The listed operations in rising order, each once.
 fn operations(list: &str) -> Result<Vec<u8>, String> {
-    let numbers = list.split(',').map(|word| word.parse().ok().filter(|number| (1..=8).contains(number)));
+    let known = request::operations();
+    let numbers = list.split(',').map(|word| word.parse().ok().filter(|number| known.contains(number)));
     let numbers: Option<Vec<u8>> = numbers.collect();
-    let mut numbers = numbers.ok_or(format!("--ops: {list} is no list of operations 1 to 8"))?;
+    let mut numbers = numbers.ok_or(format!("--ops: {list} is no list of operations 1 to 8 and 28"))?;
     numbers.sort_unstable();
     numbers.dedup();
     Ok(numbers)

@@ -1,5 +1,6 @@
 //! A request as it goes through the pipe.
 
+use crate::follow::Follow;
 use crate::reading::Reading;
 use crate::step::Step;
 use crate::stored::Stored;
@@ -30,20 +31,33 @@ pub enum Request {
     Rm3(Table, Vec<u8>),
     ReadingEvaluate(Reading, u32),
     ReadingReport(Reading),
+    Follow(Follow),
 }
 
-/// The calls by operation number; 0 is none.
-pub const CALLS: [&str; 9] = [
-    "none",
-    "check",
-    "evaluate",
-    "report",
-    "step",
-    "script",
-    "RM3 table",
-    "evaluate through a reading",
-    "report through a reading",
+/// The operations and their calls.
+const CALLS: [(u8, &str); 9] = [
+    (1, "check"),
+    (2, "evaluate"),
+    (3, "report"),
+    (4, "step"),
+    (5, "script"),
+    (6, "RM3 table"),
+    (7, "evaluate through a reading"),
+    (8, "report through a reading"),
+    (28, "follow"),
 ];
+
+/// One more than the highest operation's number.
+pub const PAST_OPERATIONS: usize = 29;
+
+pub fn operations() -> Vec<u8> {
+    CALLS.iter().map(|call| call.0).collect()
+}
+
+/// The call of an operation.
+pub fn call(operation: u8) -> &'static str {
+    CALLS.iter().find(|call| call.0 == operation).map_or("none", |call| call.1)
+}
 
 /// A named piece of a request, as its bytes.
 pub type Part = (&'static str, Vec<u8>);
@@ -54,6 +68,11 @@ fn number(name: &'static str, value: u32) -> Part {
 
 fn lent(name: &'static str, bytes: &[u8]) -> [Part; 2] {
     [number("length", bytes.len() as u32), (name, bytes.to_vec())]
+}
+
+/// Places as they are sent, and come back.
+pub fn place_bytes(places: &[u16]) -> Vec<u8> {
+    places.iter().flat_map(|place| place.to_le_bytes()).collect()
 }
 
 impl Request {
@@ -67,6 +86,7 @@ impl Request {
             Request::Rm3(..) => 6,
             Request::ReadingEvaluate(..) => 7,
             Request::ReadingReport(..) => 8,
+            Request::Follow(_) => 28,
         }
     }
 
@@ -80,6 +100,7 @@ impl Request {
             | Request::Step(table, _)
             | Request::Script(table, _)
             | Request::Stored(Stored { table, .. })
+            | Request::Follow(Follow { table, .. })
             | Request::Rm3(table, _) => {
                 parts.push(number("used", table.used));
                 parts.extend(lent("table", &table.buffer));
@@ -101,6 +122,11 @@ impl Request {
             }
             Request::Script(_, script) => parts.extend(lent("script", script)),
             Request::Stored(stored) => parts.extend(lent("script", &stored.converted)),
+            Request::Follow(Follow { script, places, .. }) => {
+                parts.extend(lent("script", script));
+                parts.push(number("count", places.len() as u32));
+                parts.push(("places", place_bytes(places)));
+            }
             Request::Rm3(_, out) => parts.extend(lent("out", out)),
             Request::Check(_) | Request::Report(_) | Request::ReadingReport(_) => {}
         }

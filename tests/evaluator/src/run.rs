@@ -5,6 +5,7 @@ use crate::cases::{Case, Dealer};
 use crate::counts::Counts;
 use crate::depth_kept::depth_fault;
 use crate::difference::{describe, differences, rm3_faults};
+use crate::probes_kept::{lower_fault, probe_fault};
 use crate::random::Random;
 use crate::request::Request;
 
@@ -35,12 +36,14 @@ pub fn run(settings: &Settings, counts: &mut Counts, ask: Ask) -> Result<(), Box
         let Case { kind, request } = dealer.deal();
         let expected = answer(&request);
         let mut lines = match ask(&request, expected.bytes().len()) {
-            Ok(reply) => differences(request.operation(), &expected, &reply),
+            Ok(reply) => differences(&request, &expected, &reply),
             Err(trouble) => vec![trouble],
         };
         if lines.is_empty() {
             lines.extend(rm3_faults(&request, &expected, &mut random));
             lines.extend(depth_fault(&request, &expected));
+            lines.extend(lower_fault(&request, &expected));
+            lines.extend(probe_fault(&request, &expected, &mut random));
         }
         if !lines.is_empty() {
             let place = format!("difference: seed {}, case {number}, {kind}", settings.seed);

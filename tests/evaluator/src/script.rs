@@ -11,16 +11,18 @@ pub struct Progress {
     pub used: u32,
 }
 
-/// What takes one step, in a buffer of so many bytes.
-pub type Apply = fn(&Network, Step, usize) -> Result<Network, Refusal>;
-
 /// Runs the script on the table in the buffer and leaves there the bytes that its single steps make.
 pub fn run(buffer: &mut [u8], used: u32, script: &[u8]) -> Progress {
     run_by(apply, buffer, used, script)
 }
 
-/// The same with steps of one's own.
-pub fn run_by(apply: Apply, buffer: &mut [u8], used: u32, script: &[u8]) -> Progress {
+/// The same with steps of one's own, each in a buffer of so many bytes.
+pub fn run_by(
+    mut apply: impl FnMut(&Network, Step, usize) -> Result<Network, Refusal>,
+    buffer: &mut [u8],
+    used: u32,
+    script: &[u8],
+) -> Progress {
     let mut progress = Progress { taken: 0, refusal: None, used };
     let mut network = match read(buffer, used, None) {
         Ok(_) if script.len() % 8 != 0 => return Progress { refusal: Some(Refusal::plain(12)), ..progress },

@@ -1,8 +1,9 @@
 //! One step: the ten rules on the network, with refusals 7 to 11.
 //!
-//! A rule first says what it plans. While a plan is carried out every gate keeps the name it had, its old node
-//! number, and new gates get names above all others; node numbers are given again at the end.
+//! A rule first says what it plans, by node numbers; the gates that it would insert are numbered on from the last node. The plan is
+//! then carried out on the graph, in which gates have names and no numbers.
 
+use crate::graph::Graph;
 use crate::table::{Edge, Gate, Network, Refusal, MOST_GATES};
 use crate::voter;
 
@@ -107,79 +108,13 @@ pub fn plan(network: &Network, step: Step) -> Option<Plan> {
     }
 }
 
-/// A network under change: its gates by name, in record order.
-struct Draft {
-    inputs: usize,
-    gates: Vec<(usize, Gate)>,
-    outputs: Vec<Edge>,
-}
-
-impl Draft {
-    fn of(network: &Network) -> Draft {
-        let names = network.inputs + 1..;
-        let gates = names.zip(network.gates.iter().copied()).collect();
-        Draft { inputs: network.inputs, gates, outputs: network.outputs.clone() }
-    }
-
-    fn carry_out(&mut self, plan: Plan, g: usize) {
-        match plan {
-            Plan::Become(edges) => self.gate_mut(g).1 = edges,
-            Plan::Redirect(to) => {
-                self.each_edge_naming(g, |edge| *edge = to.inverted_if(edge.inverted));
-            }
-            Plan::Insert(new, edges) => {
-                self.gate_mut(g).1 = edges;
-                let fresh = self.inputs + self.gates.len() + 1..;
-                let place = self.gates.iter().position(|gate| gate.0 == g).unwrap_or(0);
-                self.gates.splice(place..place, fresh.zip(new));
-            }
-            Plan::Invert => {
-                let gate = self.gate_mut(g);
-                gate.1 = gate.1.map(|edge| edge.inverted_if(true));
-                self.each_edge_naming(g, |edge| *edge = edge.inverted_if(true));
-            }
-            Plan::Sweep => self.sweep(),
-        }
-    }
-
-    fn gate_mut(&mut self, name: usize) -> &mut (usize, Gate) {
-        self.gates.iter_mut().find(|gate| gate.0 == name).expect("the step's gate")
-    }
-
-    fn each_edge_naming(&mut self, name: usize, change: impl Fn(&mut Edge)) {
-        let edges = self.gates.iter_mut().flat_map(|gate| &mut gate.1).chain(&mut self.outputs);
-        edges.filter(|edge| edge.node == name).for_each(change);
-    }
-
-    /// Keeps the gates that some output reaches: a search from the outputs, gate by gate.
-    fn sweep(&mut self) {
-        let mut reached = vec![false; self.inputs + self.gates.len() + 1];
-        let mut waiting: Vec<usize> = self.outputs.iter().map(|edge| edge.node).collect();
-        while let Some(node) = waiting.pop() {
-            if !std::mem::replace(&mut reached[node], true) && node > self.inputs {
-                waiting.extend(self.gates[node - self.inputs - 1].1.map(|edge| edge.node));
-            }
-        }
-        self.gates.retain(|gate| reached[gate.0]);
-    }
-
-    /// The network with node numbers given anew by record order.
-    fn numbered(self) -> Network {
-        let names = (0..=self.inputs).chain(self.gates.iter().map(|gate| gate.0));
-        let highest = self.gates.iter().map(|gate| gate.0).max().unwrap_or(self.inputs);
-        let mut number = vec![usize::MAX; highest + 1];
-        names.enumerate().for_each(|(at, name)| number[name] = at);
-        let renumbered = |edge: Edge| Edge { node: number[edge.node], ..edge };
-        Network {
-            inputs: self.inputs,
-            gates: self.gates.iter().map(|gate| gate.1.map(renumbered)).collect(),
-            outputs: self.outputs.iter().map(|&edge| renumbered(edge)).collect(),
-        }
-    }
-}
-
 /// The network after one step, in a buffer of `room` bytes.
 pub fn apply(network: &Network, step: Step, room: usize) -> Result<Network, Refusal> {
+    take(&mut Graph::of(network), network, step, room)
+}
+
+/// Takes one step on a graph, which is that of the network, and gives the network then; a refused step leaves the graph as it is.
+pub fn take(graph: &mut Graph, network: &Network, step: Step, room: usize) -> Result<Network, Refusal> {
     if !(1..=LAST_RULE).contains(&step.rule) {
         return Err(Refusal::plain(7));
     }
@@ -187,21 +122,27 @@ pub fn apply(network: &Network, step: Step, room: usize) -> Result<Network, Refu
         return Err(Refusal::plain(8));
     }
     let plan = plan(network, step).ok_or(Refusal::plain(9))?;
-    carried_out(network, usize::from(step.gate), plan, room)
+    carry_out(graph, usize::from(step.gate), plan, room)
 }
 
 /// The network after what was planned for its gate g, unless that has too many gates or does not fit the buffer.
 pub fn carried_out(network: &Network, g: usize, plan: Plan, room: usize) -> Result<Network, Refusal> {
-    let mut draft = Draft::of(network);
-    draft.carry_out(plan, g);
-    let result = draft.numbered();
-    if result.gates.len() > MOST_GATES {
+    carry_out(&mut Graph::of(network), g, plan, room)
+}
+
+/// Carries out on a graph what was planned for its gate g, and gives the network then, unless there is no place for it.
+fn carry_out(graph: &mut Graph, g: usize, plan: Plan, room: usize) -> Result<Network, Refusal> {
+    let mut after = graph.clone();
+    after.carry_out(plan, g);
+    let network = after.network();
+    if network.gates.len() > MOST_GATES {
         return Err(Refusal::plain(10));
     }
-    if result.used() > room {
+    if network.used() > room {
         return Err(Refusal::plain(11));
     }
-    Ok(result)
+    *graph = after;
+    Ok(network)
 }
 
 /// Lays an accepted result over the buffer, clears what the table no longer uses, and gives the new used length.

@@ -2,13 +2,13 @@
 
 use crate::answer::{answer, Answer};
 use crate::cases::Dealer;
-use crate::request::{Request, Table};
-use crate::script::{run, run_by, Apply, Progress};
+use crate::request::{operations, Request, Table};
+use crate::script::{run, run_by, Progress};
 use crate::sheet::network;
 use crate::step::{apply, carried_out, FirstTwo, Plan, Step};
 use crate::stored::Stored;
 use crate::table::{record_bytes, records, Network, Record, Refusal};
-use crate::tests::against;
+use crate::tests::{against, GATE};
 use std::collections::BTreeMap;
 
 /// The script on the network's table, in a buffer that has no more room.
@@ -72,7 +72,7 @@ fn what_was_not_taken_stays() {
 
 /// The stored scripts among so many requests of a seed.
 fn dealt(seed: u64, count: usize) -> Vec<Stored> {
-    let mut dealer = Dealer::new(seed, &[1, 2, 3, 4, 5, 6, 7, 8]);
+    let mut dealer = Dealer::new(seed, &operations());
     let requests = (0..count).map(|_| dealer.deal().request);
     requests.filter_map(|request| if let Request::Stored(stored) = request { Some(stored) } else { None }).collect()
 }
@@ -126,7 +126,7 @@ fn marks(stored: &Stored) -> Vec<String> {
 /// The gate's requests deal every sort of stored script, and at least one request in fifteen is one.
 #[test]
 fn every_sort_of_stored_script_is_dealt() {
-    let dealt = dealt(1, 10_000);
+    let dealt = dealt(1, GATE);
     let mut met = BTreeMap::<String, usize>::new();
     for mark in dealt.iter().flat_map(marks) {
         *met.entry(mark).or_default() += 1;
@@ -156,6 +156,9 @@ fn every_sort_of_stored_script_is_dealt() {
     let few: Vec<_> = wanted.filter(|(mark, least)| met.get(mark).is_none_or(|count| count < least)).collect();
     assert!(few.is_empty() && dealt.len() >= 667, "{} dealt, too few: {few:?} of {met:?}", dealt.len());
 }
+
+/// What takes one step, in a buffer of so many bytes.
+type Apply = fn(&Network, Step, usize) -> Result<Network, Refusal>;
 
 /// What a program with steps of its own replies to a script.
 fn scripted(request: &Request, own: Answer, apply: Apply) -> Answer {

@@ -4,11 +4,14 @@
 use crate::answer::{answer, Answer};
 use crate::cases::Dealer;
 use crate::counts::Counts;
-use crate::request::Request;
+use crate::request::{operations, Request};
 use crate::run::{run, Settings, ENOUGH};
 use crate::step::{apply, Step};
 use crate::table::{read, Refusal, MOST_GATES};
 use crate::value::outputs;
+
+/// How many requests the gate asks (the script `test`).
+pub const GATE: usize = 12_000;
 
 /// No accepted step changes an output, under any assignment.
 #[test]
@@ -29,7 +32,7 @@ fn steps_keep_the_outputs() {
 
 /// Runs against a fake program: the evaluator's own answers, changed by one slip.
 pub fn against(slip: fn(&Request, Answer) -> Answer) -> Result<Counts, String> {
-    let settings = Settings { seed: 3, count: ENOUGH, operations: (1..=8).collect() };
+    let settings = Settings { seed: 3, count: ENOUGH, operations: operations() };
     let mut counts = Counts::default();
     let ended = run(&settings, &mut counts, &mut |request, _| Ok(slip(request, answer(request)).bytes()));
     ended.map(|()| counts).map_err(|difference| difference.text)
@@ -39,7 +42,7 @@ pub fn against(slip: fn(&Request, Answer) -> Answer) -> Result<Counts, String> {
 fn a_run_against_its_own_answers_meets_everything() {
     let counts = against(|_, answer| answer).unwrap();
     assert_eq!(counts.passed(), ENOUGH);
-    assert_eq!(counts.never_met(&[1, 2, 3, 4, 5, 6, 7, 8]), Vec::<String>::new());
+    assert_eq!(counts.never_met(&operations()), Vec::<String>::new());
 }
 
 #[test]

@@ -1,5 +1,6 @@
 //! What a network is worth: values and levels by recursion with memory, size and depth.
 
+use crate::random::Random;
 use crate::table::{Edge, Network, Refusal};
 
 struct Values<'a> {
@@ -26,7 +27,22 @@ impl Values<'_> {
     }
 }
 
-/// The outputs' number under an assignment that has no bit above the inputs.
+/// All assignments of so many inputs, or, where they are many, some.
+pub fn some_assignments(random: &mut Random, inputs: usize) -> Vec<u32> {
+    let every = 1u64 << inputs;
+    match inputs {
+        0..=10 => (0..every as u32).collect(),
+        _ => (0..24).map(|_| (random.bits() % every) as u32).collect(),
+    }
+}
+
+/// The value of each node under an assignment that has no bit above the inputs.
+pub fn values(network: &Network, assignment: u32) -> Vec<bool> {
+    let mut values = Values { network, assignment, known: vec![None; network.nodes()] };
+    (0..network.nodes()).map(|node| values.node(node)).collect()
+}
+
+/// The outputs' number under such an assignment.
 pub fn outputs(network: &Network, assignment: u32) -> u32 {
     let mut values = Values { network, assignment, known: vec![None; network.nodes()] };
     let bits = network.outputs.iter().enumerate();

@@ -2,9 +2,10 @@
 
 use crate::cases::{networks, Dealer};
 use crate::random::Random;
-use crate::request::{Request, Table};
+use crate::request::{operations, Request, Table};
 use crate::step::{apply, Step};
 use crate::table::{Edge, Gate, Network, MOST_GATES};
+use crate::tests::GATE;
 use crate::value::{level_of, output_levels, outputs, size};
 use crate::voter::pair;
 use std::collections::BTreeSet;
@@ -44,9 +45,9 @@ fn voters_of(network: &Network) -> Vec<Step> {
 /// The gate's requests deal each shape of a voter and each way to miss it, and accept 300 single ones or more.
 #[test]
 fn every_shape_and_near_miss_is_dealt() {
-    let mut dealer = Dealer::new(1, &[1, 2, 3, 4, 5, 6, 7, 8]);
+    let mut dealer = Dealer::new(1, &operations());
     let (mut met, mut accepted) = (BTreeSet::new(), 0);
-    for _ in 0..10_000 {
+    for _ in 0..GATE {
         if let Request::Step(table, step @ Step { rule: 9, .. }) = dealer.deal().request {
             let Ok(network) = table.network() else {
                 continue;

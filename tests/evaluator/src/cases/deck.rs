@@ -74,8 +74,16 @@ impl Hand {
     }
 }
 
-/// The share of operations 1 to 8 in a run.
-const SHARES: [usize; 8] = [3, 2, 1, 8, 4, 3, 1, 1];
+/// The share of an operation in a run.
+fn share(operation: u8) -> usize {
+    match operation {
+        4 => 8,
+        5 | 28 => 4,
+        1 | 6 => 3,
+        2 => 2,
+        _ => 1,
+    }
+}
 
 pub struct Dealer {
     random: Random,
@@ -85,7 +93,7 @@ pub struct Dealer {
 
 impl Dealer {
     pub fn new(seed: u64, operations: &[u8]) -> Dealer {
-        let shares = operations.iter().map(|&operation| SHARES[usize::from(operation) - 1]);
+        let shares = operations.iter().map(|&operation| share(operation));
         let hands = operations.iter().map(|&operation| Hand::new(operation)).collect();
         Dealer { random: Random::new(seed), operations: Deck::new(shares), hands }
     }

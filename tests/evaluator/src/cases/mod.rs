@@ -6,6 +6,7 @@ mod deck;
 mod depths;
 mod edges;
 mod first_two;
+mod follows;
 pub mod networks;
 mod plant;
 mod readings;
@@ -33,6 +34,7 @@ fn kinds(operation: u8) -> Vec<Kind> {
         6 => translations::kinds(),
         7 => readings::evaluate_kinds(),
         8 => readings::report_kinds(),
+        28 => follows::kinds(),
         _ => vec![],
     };
     kinds.extend(match operation {
@@ -66,16 +68,15 @@ fn around(operation: u8, random: &mut Random, table: Table) -> Request {
         3 => Request::Report(table),
         4 => Request::Step(table, any_step(random)),
         5 => {
-            let steps: Vec<_> = (0..random.below(4)).map(|_| any_step(random).fields()).collect();
-            let mut script = record_bytes(&steps);
-            if random.once_in(4) {
-                let more = random.between(1, 7);
-                script.extend(random.bytes(more));
-            }
+            let script = any_script(random);
             match random.once_in(2) {
                 true => stored::request(table, script),
                 false => Request::Script(table, script),
             }
+        }
+        28 => {
+            let script = any_script(random);
+            follows::any_places(random, table, script)
         }
         6 => {
             let length = random.pick(&[0, 8, 100, 400, 3000]);
@@ -105,6 +106,17 @@ fn any_step(random: &mut Random) -> Step {
         false => usize::from(random.once_in(8)),
     };
     Step::of([rule, gate as u16, a as u16, b as u16])
+}
+
+/// A few steps, now and then with a part of another.
+fn any_script(random: &mut Random) -> Vec<u8> {
+    let steps: Vec<_> = (0..random.below(4)).map(|_| any_step(random).fields()).collect();
+    let mut script = record_bytes(&steps);
+    if random.once_in(4) {
+        let more = random.between(1, 7);
+        script.extend(random.bytes(more));
+    }
+    script
 }
 
 /// A network's table in a buffer with `behind` bytes of garbage after it.

@@ -63,9 +63,11 @@ impl Draft {
     /// Adds a step of one of the rules where it is accepted, and says whether.
     pub fn grow(&mut self, random: &mut Random, rules: &[u16]) -> bool {
         let rule = random.pick(rules);
-        let Some(step) = self.fitting(random, rule) else {
-            return false;
-        };
+        self.fitting(random, rule).is_some_and(|step| self.take(step))
+    }
+
+    /// Adds the step where it is accepted, and says whether.
+    pub fn take(&mut self, step: Step) -> bool {
         let result = apply(&self.network, step, self.table.buffer.len());
         if let Ok(network) = result {
             self.network = network;
@@ -75,7 +77,7 @@ impl Draft {
         false
     }
 
-    fn grow_some(&mut self, random: &mut Random, steps: usize) {
+    pub fn grow_some(&mut self, random: &mut Random, steps: usize) {
         for _ in 0..steps {
             self.grow(random, &[1, 1, 2, 3, 3, 4, 4, 5, 6, 6, 7, 8, 9, 10]);
         }
@@ -187,7 +189,7 @@ pub fn grow_until_refused(random: &mut Random, turn: usize) -> Request {
 }
 
 /// A voter again and again at one gate, which copies the copies of the one before, until it is refused 10 or 11.
-fn vote_until_refused(random: &mut Random, turn: usize) -> Request {
+pub fn vote_until_refused(random: &mut Random, turn: usize) -> Request {
     let mut plant = plant(random, 9, None);
     networks::fill(random, &mut plant.network, [0, 0, 30, 100][turn / 2 % 4]);
     let (inputs, step) = (plant.network.inputs, plant.step);
@@ -203,7 +205,7 @@ fn vote_until_refused(random: &mut Random, turn: usize) -> Request {
 }
 
 /// Voters after voters, wherever they fit, with now and then a step that simplifies or sweeps.
-fn voters(random: &mut Random, _turn: usize) -> Request {
+pub fn voters(random: &mut Random, _turn: usize) -> Request {
     let (gates, room) = (random.between(2, 12), random.between(20, MOST_GATES));
     let network = networks::chain(random, 4, gates, 3);
     let mut draft = Draft::new(random, network, 8 * room);

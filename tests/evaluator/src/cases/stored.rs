@@ -109,7 +109,7 @@ fn stopped_at_most_gates(random: &mut Random, turn: usize) -> Request {
 
 fn uneven(random: &mut Random, turn: usize) -> Request {
     let mut draft = started(random);
-    grow_some(&mut draft, random, turn % 5);
+    grow_some(&mut draft, random, 1 + turn % 5);
     let more = 1 + turn % 7;
     let mut script = record_bytes(&draft.script);
     script.extend(random.bytes(more));
