@@ -36,17 +36,18 @@ struct side {
     struct pulpgarnet_reported (*report)(const uint8_t *, size_t, size_t);
     struct pulpgarnet_stepped (*step)(uint8_t *, size_t, size_t, uint16_t, uint16_t, uint16_t, uint16_t);
     struct pulpgarnet_ran (*script)(uint8_t *, size_t, size_t, const uint8_t *, size_t);
+    struct pulpgarnet_ran (*follow)(uint8_t *, size_t, size_t, const uint8_t *, size_t, uint16_t *, size_t);
     struct pulpgarnet_written (*translate)(const uint8_t *, size_t, size_t, uint8_t *, size_t);
     struct pulpgarnet_deep (*rm3_depth)(const uint8_t *, size_t, size_t);
 };
 
 static const struct side SIDES[2] = {
-    { pulpgarnet_check, pulpgarnet_evaluate, pulpgarnet_report, pulpgarnet_step, pulpgarnet_script, pulpgarnet_translate,
-      pulpgarnet_rm3_depth },
-    { plain_check, plain_evaluate, plain_report, plain_step, plain_script, plain_translate, plain_rm3_depth },
+    { pulpgarnet_check, pulpgarnet_evaluate, pulpgarnet_report, pulpgarnet_step, pulpgarnet_script, pulpgarnet_follow,
+      pulpgarnet_translate, pulpgarnet_rm3_depth },
+    { plain_check, plain_evaluate, plain_report, plain_step, plain_script, plain_follow, plain_translate, plain_rm3_depth },
 };
 
-enum call { NOTHING, CHECK, EVALUATE, REPORT, STEP, SCRIPT, TRANSLATE, RM3_DEPTH };
+enum call { NOTHING, CHECK, EVALUATE, REPORT, STEP, SCRIPT, FOLLOW, TRANSLATE, RM3_DEPTH };
 
 struct row { const char *name; enum call call; uint16_t rule; };
 
@@ -65,6 +66,7 @@ static const struct row ROWS[] = {
     { "step 9 voter", STEP, 9 },
     { "step 10 opposite", STEP, 10 },
     { "script of 64 steps", SCRIPT, 0 },
+    { "follow of 64 steps", FOLLOW, 0 },
     { "translate", TRANSLATE, 0 },
     { "RM3 depth", RM3_DEPTH, 0 },
 };
@@ -86,6 +88,7 @@ struct input {
 struct reply { uint64_t numbers[6]; };
 
 static uint8_t out[MOST_RM3];
+static uint16_t places[MOST_GATES];
 
 __attribute__((noinline)) static void ask(const struct side *side, const struct input *in, uint8_t *table,
                                           struct reply *reply)
@@ -116,6 +119,12 @@ __attribute__((noinline)) static void ask(const struct side *side, const struct 
     }
     case SCRIPT: {
         struct pulpgarnet_ran r = side->script(table, in->length, in->used, in->steps, sizeof in->steps);
+        n[0] = r.refusal, n[1] = r.record, n[2] = r.edge, n[3] = r.taken, n[4] = r.used;
+        break;
+    }
+    case FOLLOW: {
+        struct pulpgarnet_ran r =
+            side->follow(table, in->length, in->used, in->steps, sizeof in->steps, places, MOST_GATES);
         n[0] = r.refusal, n[1] = r.record, n[2] = r.edge, n[3] = r.taken, n[4] = r.used;
         break;
     }
@@ -272,7 +281,7 @@ static void make_input(struct input *in, const struct row *row, unsigned gates)
         in->a = (uint16_t)(row->rule == 1 ? 1 : row->rule == 7 ? gate - 1 : row->rule == 9 ? gate - 3 : 0);
         in->b = (uint16_t)(row->rule == 9 ? gate - 2 : 0);
     }
-    if (row->call == SCRIPT)
+    if (row->call == SCRIPT || row->call == FOLLOW)
         choose_steps(in);
     snprintf(in->label, sizeof in->label, "%-22s %6u", row->name, in->gates);
 }
@@ -281,18 +290,22 @@ static void make_input(struct input *in, const struct row *row, unsigned gates)
 static void compare_refusal(const struct input *in, uint64_t refusal, uint64_t record, uint64_t edge)
 {
     static uint8_t tables[2][MOST_BUFFER], outs[2][MOST_RM3];
+    static uint16_t places_left[2][MOST_GATES];
     struct reply replies[2];
     memset(replies, 0, sizeof replies);
     for (int s = 0; s < 2; s++) {
         memcpy(tables[s], in->table, MOST_BUFFER);
         memset(out, 0xa5, sizeof out);
+        memset(places, 0xa5, sizeof places);
         ask(&SIDES[s], in, tables[s], &replies[s]);
         memcpy(outs[s], out, sizeof out);
+        memcpy(places_left[s], places, sizeof places);
     }
     const uint64_t *n = replies[0].numbers;
     const char *wrong = memcmp(&replies[0], &replies[1], sizeof replies[0]) != 0 ? "has two replies"
         : n[0] != refusal || n[1] != record || n[2] != edge ? "has another refusal"
         : memcmp(tables[0], tables[1], MOST_BUFFER) != 0 || memcmp(outs[0], outs[1], sizeof out) != 0 ? "leaves two results"
+        : memcmp(places_left[0], places_left[1], sizeof places) != 0 ? "leaves two sorts of places"
         : 0;
     if (wrong) {
         printf("bench: %s gates: %s\n", in->label, wrong);
