@@ -1,4 +1,4 @@
--- Stored scripts (SPEC 5.7): rule 2 once took opposite edges too, and no rule had the number 10. A script of that time is converted, and gives what it gave.
+-- Stored scripts (SPEC 5.8): rule 2 once took opposite edges too, and no rule had the number 10. A script of that time is converted, and gives what it gave.
 use Prim.Native.Nat.{ℕ, zero, suc, _+_, _*_, _/_, _%_, _<_}
 use mathlib.Core.Path.{_≡_}
 use mathlib.Core.Bool.{Bool, not, _&&_, _||_}
