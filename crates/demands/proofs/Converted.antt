@@ -14,7 +14,7 @@ use Rattle.rules.specs.declared.Step.{Step}
 use Rattle.tables.specs.Field.{putField}
 use Rattle.tables.specs.Bytes.{tableOf}
 use Rattle.tables.specs.Calls.{checkOf}
-use Rattle.tables.proofs.PutField.{field-length}
+use Rattle.tables.proofs.PutField.{bytes-length}
 use Rattle.rewriting.specs.Calls.{stepOf, stepBytes}
 use Rattle.rewriting.specs.Script.{Run, stopped, stepAt, stepsFrom, stepsOf, byReply, runBy, afterCheck, scriptBy}
 use Rattle.demands.specs.Converted.{stepOfBefore, stepBytesBefore, meetsOpposite, renumbered, convertedFrom, Conversion}
@@ -37,7 +37,7 @@ converted-keeps P (suc k) i xs used script keeps p =
     go (refused w) rest = p
 
 converted-length : (k i : ℕ) (xs : List ℕ) (used : ℕ) (script : List ℕ) → length (convertedFrom i k xs used script) ≡ length script
-converted-length k i xs used script = converted-keeps (λ ys. length ys ≡ length script) k i xs used script (λ j ys h e. field-length ys (4 * j) 10 ∙ e) refl
+converted-length k i xs used script = converted-keeps (λ ys. length ys ≡ length script) k i xs used script (λ j ys h e. bytes-length ys (4 * j) 10 0 ∙ e) refl
 
 -- the steps before step i stay
 converted-step : (k i : ℕ) (xs : List ℕ) (used : ℕ) (script : List ℕ) (j : ℕ) → j < i → stepAt (convertedFrom i k xs used script) j ≡ stepAt script j
@@ -86,7 +86,7 @@ module _ (i : ℕ) (xs : List ℕ) (used : ℕ) (script : List ℕ) where
   onward = renumbered met i script
 
   onward-length : length onward ≡ length script
-  onward-length = renumbered-keeps i script (λ zs. length zs ≡ length script) (field-length script (4 * i) 10) refl met
+  onward-length = renumbered-keeps i script (λ zs. length zs ≡ length script) (bytes-length script (4 * i) 10 0) refl met
 
   onward-step : (j : ℕ) → suc i ≤ j → stepAt onward j ≡ stepAt script j
   onward-step j h = renumbered-keeps i script (λ zs. stepAt zs j ≡ stepAt script j) (step-stays i script j (λ e. omega arith)) refl met

@@ -1,4 +1,5 @@
--- One step takes a buffer that holds an accepted table to another such buffer, and keeps what it must between the two tables; sweep keeps depth itself, and every other rule what stood below g.
+-- One step takes a buffer that holds an accepted table to another such buffer, and keeps what it must between the two tables; sweep keeps depth itself, every other rule what stood below g, and what a step inserts
+-- has its gate's block.
 use Prim.Native.Nat.{ℕ, suc, _+_, _*_, _/_, _%_, _≤_, _<_}
 use mathlib.Core.Path.{_≡_, refl, sym, _∙_}
 use mathlib.Core.List.{List}
@@ -8,7 +9,8 @@ use lib.ListN.{length}
 use Rattle.refusals.specs.Reply.{Reply, accepted, refused, andThen}
 use Rattle.rules.specs.Kept.{Kept}
 use Rattle.rules.specs.Followed.{Probe, followed, followedEdge, Shows}
-use Rattle.rules.specs.Step.{step, deepensBy, votersBy}
+use Rattle.rules.specs.Voter.{blockOf}
+use Rattle.rules.specs.Step.{step, deepensBy, votersBy, insertedBy}
 use Rattle.rules.specs.declared.Step.{Step}
 use Rattle.majority.specs.Table.{recordAt}
 use Rattle.majority.specs.Check.{counts, checkRecords, count}
@@ -16,7 +18,7 @@ use Rattle.majority.specs.declared.Record.{Record}
 use Rattle.majority.proofs.Accepted.{Accepted, acceptance, accepts}
 use Rattle.rules.proofs.Kept.{kept-same}
 use Rattle.rules.proofs.Followed.{step-shows}
-use Rattle.rules.proofs.Steps.{step-kept, sweep-step-depth, step-lower, step-fits, step-accepted}
+use Rattle.rules.proofs.Steps.{step-kept, step-blocks, sweep-step-depth, step-lower, step-fits, step-accepted}
 use Rattle.tables.specs.Bytes.{tableOf}
 use Rattle.tables.specs.Calls.{checkOf}
 use Rattle.tables.proofs.Encoded.{accepted-records}
@@ -116,6 +118,12 @@ module _ (xs : List ℕ) (used n m o : ℕ) (is : checkOf xs used ≡ accepted (
     pub lower-between : (next : ℕ) → (s .rule ≡ 8 → ⊥) → stepOf xs used s ≡ accepted next
         → (j : ℕ) → suc j < s .gate → recordAt (tableOf (stepBytes xs used s) (next / 8)) j ≡ recordAt (tableOf xs (used / 8)) j
     lower-between next other e j h = let w = leaves next e in rw (w .there) (step-lower (was .formed) _ _ (w .table) (w .made) other j h)
+
+    -- the gates that a step inserts are gates of the block of its own
+    pub inserted-between : (next : ℕ) (e : stepOf xs used s ≡ accepted next) (k : ℕ) → s .gate ≤ k → k < s .gate + insertedBy n s
+        → (n < k) × (k ≤ n + between-step next e .gates) × (blockOf (tableOf (stepBytes xs used s) (next / 8)) k ≡ blockOf (tableOf xs (used / 8)) (s .gate))
+    unfolding between-step
+    inserted-between next e k p q = let w = leaves next e in rw (w .there) (step-blocks (was .formed) _ _ (w .table) (w .made) .new k p q)
 
 pub sweep-keeps-depth : SweepKeepsDepth
 unfolding SweepKeepsDepth

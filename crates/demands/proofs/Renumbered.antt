@@ -10,7 +10,7 @@ use Rattle.majority.specs.If.{if_then_else_}
 use Rattle.rules.specs.Step.{stepWith}
 use Rattle.tables.specs.Field.{putField}
 use Rattle.tables.specs.Bytes.{fieldOf}
-use Rattle.tables.proofs.PutField.{field-length, field-same, field-other}
+use Rattle.tables.proofs.PutField.{bytes-length, field-same, field-other}
 use Rattle.rewriting.specs.Script.{stepAt}
 use Rattle.demands.specs.Converted.{renumbered}
 
@@ -20,7 +20,7 @@ module _ (i : ℕ) (script : List ℕ) where
 
   field-stays : (j d : ℕ) → (4 * j + d ≡ 4 * i → ⊥) → fieldOf ten j d ≡ fieldOf script j d
   unfolding fieldOf
-  field-stays j d other = rw (field-length script (4 * i) 10, field-other script (4 * i) 10 (4 * j + d) other)
+  field-stays j d other = rw (bytes-length script (4 * i) 10 0, field-other script (4 * i) 10 0 (4 * j + d) other)
 
   -- every other step stays
   pub step-stays : (j : ℕ) → (j ≡ i → ⊥) → stepAt ten j ≡ stepAt script j
@@ -36,7 +36,7 @@ module _ (i : ℕ) (script : List ℕ) where
   unfolding fieldOf
   number-ten h =
       let e : 4 * i + 0 ≡ 4 * i = omega arith in
-      rw (field-length script (4 * i) 10, lt-ltb i (length script / 8) h, e) (field-same script (4 * i) 10 (omega arith))
+      rw (bytes-length script (4 * i) 10 0, lt-ltb i (length script / 8) h, e) (field-same script (4 * i) 10 (omega arith))
 
   step-ten : i < length script / 8 → stepAt ten i ≡ stepWith 10 (stepAt script i .gate) (stepAt script i .a) (stepAt script i .b)
   step-ten h =

@@ -20,6 +20,7 @@ fn redirected_record(from: u16, to: u16, r: Record) -> Record
 {
     Record {
         kind: r.kind,
+        block: r.block,
         e1: redirected(from, to, r.e1),
         e2: redirected(from, to, r.e2),
         e3: redirected(from, to, r.e3),
@@ -60,7 +61,7 @@ fn raised(g: u16, c: u16, edge: u16) -> u16
     wrapping_add_u16(edge, wrapping_add_u16(c, c))
 }
 
-// By how many gates a kind rises: 0. The backend does not see that, and so raises a kind and its three edges at once.
+// By how many gates a kind and its block rise: 0. The backend does not see that, and so raises them, as one field, and the three edges at once.
 fn unraised(g: u16) -> u16
     ensures { λ r. ⌜ r ≡ 0 ⌝ }
 {
@@ -71,8 +72,10 @@ fn unraised(g: u16) -> u16
 fn raised_record(g: u16, c: u16, r: Record) -> Record
     ensures { λ q. ⌜ q ≡ edges (raise16 g c) r ⌝ }
 {
+    let head = raised(g, unraised(g), (r.kind as u16) + 256 * (r.block as u16));
     Record {
-        kind: raised(g, unraised(g), r.kind),
+        kind: (head % 256) as u8,
+        block: (head / 256) as u8,
         e1: raised(g, c, r.e1),
         e2: raised(g, c, r.e2),
         e3: raised(g, c, r.e3),
@@ -163,6 +166,7 @@ pub fn clear(s: &mut [u8], first: usize, n: usize)
             i,
             Record {
                 kind: 0,
+                block: 0,
                 e1: 0,
                 e2: 0,
                 e3: 0,

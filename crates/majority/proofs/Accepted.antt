@@ -44,13 +44,15 @@ module _ (last i : ℕ) (r : Record) where
 
   input-of : r .kind ≡ 1 → faulty last i r ≡ false → r ≡ input
   input-of k e =
-      let fields : notZero r ≡ (not (eqb (r .e1) 0) || not (eqb (r .e2) 0) || not (eqb (r .e3) 0)) = rw (eq-eqb _ _ k) in
-      let w = neither (not (eqb (r .e1) 0) || not (eqb (r .e2) 0)) (not (eqb (r .e3) 0)) (sym fields ∙ no-fault e .0) in
-      let z = neither (not (eqb (r .e1) 0)) (not (eqb (r .e2) 0)) (w .0) in
-      let p1 = zero (r .e1) (z .0) in
-      let p2 = zero (r .e2) (z .1) in
+      let fields : notZero r ≡ (not (eqb (r .block) 0) || not (eqb (r .e1) 0) || not (eqb (r .e2) 0) || not (eqb (r .e3) 0)) = rw (eq-eqb _ _ k) in
+      let w = neither (not (eqb (r .block) 0) || not (eqb (r .e1) 0) || not (eqb (r .e2) 0)) (not (eqb (r .e3) 0)) (sym fields ∙ no-fault e .0) in
+      let y = neither (not (eqb (r .block) 0) || not (eqb (r .e1) 0)) (not (eqb (r .e2) 0)) (w .0) in
+      let z = neither (not (eqb (r .block) 0)) (not (eqb (r .e1) 0)) (y .0) in
+      let b = zero (r .block) (z .0) in
+      let p1 = zero (r .e1) (z .1) in
+      let p2 = zero (r .e2) (y .1) in
       let p3 = zero (r .e3) (w .1) in
-      λ d. record { kind = k d; e1 = p1 d; e2 = p2 d; e3 = p3 d }
+      λ d. record { kind = k d; block = b d; e1 = p1 d; e2 = p2 d; e3 = p3 d }
 
   gate-of : r .kind ≡ 2 → faulty last i r ≡ false → Below (suc i) r
   gate-of k e =
@@ -68,12 +70,14 @@ module _ (last i : ℕ) (r : Record) where
   output-of k e =
       let n1 : r .kind ≡ 1 → ⊥ = λ h. omega arith in
       let n2 : r .kind ≡ 2 → ⊥ = λ h. omega arith in
-      let fields : notZero r ≡ (not (eqb (r .e2) 0) || not (eqb (r .e3) 0)) = rw (ne-eqb (r .kind) 1 n1, ne-eqb (r .kind) 2 n2) in
+      let fields : notZero r ≡ (not (eqb (r .block) 0) || not (eqb (r .e2) 0) || not (eqb (r .e3) 0)) = rw (ne-eqb (r .kind) 1 n1, ne-eqb (r .kind) 2 n2) in
       let edge : badEdge last i r ≡ firstOf (past last (r .e1)) false false = rw (ne-eqb (r .kind) 1 n1, ne-eqb (r .kind) 2 n2) in
-      let z = neither (not (eqb (r .e2) 0)) (not (eqb (r .e3) 0)) (sym fields ∙ no-fault e .0) in
-      let p2 = zero (r .e2) (z .0) in
-      let p3 = zero (r .e3) (z .1) in
-      (λ d. record { kind = k d; e1 = r .e1; e2 = p2 d; e3 = p3 d }, ltb-false _ _ (none-of (past last (r .e1)) false false (sym edge ∙ no-fault e .1) .0))
+      let w = neither (not (eqb (r .block) 0) || not (eqb (r .e2) 0)) (not (eqb (r .e3) 0)) (sym fields ∙ no-fault e .0) in
+      let z = neither (not (eqb (r .block) 0)) (not (eqb (r .e2) 0)) (w .0) in
+      let b = zero (r .block) (z .0) in
+      let p2 = zero (r .e2) (z .1) in
+      let p3 = zero (r .e3) (w .1) in
+      (λ d. record { kind = k d; block = b d; e1 = r .e1; e2 = p2 d; e3 = p3 d }, ltb-false _ _ (none-of (past last (r .e1)) false false (sym edge ∙ no-fault e .1) .0))
 
   of-gate : r .kind ≡ 2 → Below (suc i) r → faulty last i r ≡ false
   unfolding faulty

@@ -41,12 +41,12 @@ countsOf rs = counts (count 1 rs) (count 2 rs) (count 3 rs)
 abbrev pub badCounts : Counts → Bool
 badCounts c = ltb 32 (c .inputs) || ltb 1024 (c .gates) || ltb 32 (c .outputs) || ltb (c .outputs) 1
 
--- 4: a field that must be zero is not: any of an input, the second or third of an output
+-- 4: a field that must be zero is not: the block or any other of an input, the block, the second or third of an output
 abbrev pub notZero : Record → Bool
 notZero r =
-    if eqb (r .kind) 1 then not (eqb (r .e1) 0) || not (eqb (r .e2) 0) || not (eqb (r .e3) 0)
+    if eqb (r .kind) 1 then not (eqb (r .block) 0) || not (eqb (r .e1) 0) || not (eqb (r .e2) 0) || not (eqb (r .e3) 0)
     else if eqb (r .kind) 2 then false
-    else not (eqb (r .e2) 0) || not (eqb (r .e3) 0)
+    else not (eqb (r .block) 0) || not (eqb (r .e2) 0) || not (eqb (r .e3) 0)
 
 -- the edge e names a node past last
 abbrev pub past : ℕ → ℕ → Bool

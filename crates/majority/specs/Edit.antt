@@ -6,9 +6,9 @@ use Rattle.majority.specs.Edge.{redirect, raise}
 use Rattle.majority.specs.Table.{recordOf, recordAt}
 use Rattle.majority.specs.declared.Record.{Record}
 
--- the record with f of each of its three edges
+-- the record with f of each of its three edges; its block stays
 abbrev pub edges : (ℕ → ℕ) → Record → Record
-edges f r = recordOf (r .kind) (f (r .e1)) (f (r .e2)) (f (r .e3))
+edges f r = recordOf (r .kind) (r .block) (f (r .e1)) (f (r .e2)) (f (r .e3))
 
 -- the record of node g
 abbrev pub nodeRecord : List Record → ℕ → Record

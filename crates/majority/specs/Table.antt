@@ -7,24 +7,24 @@ use lib.ListN.{length, getD}
 use Rattle.majority.specs.Edge.{nodeOf}
 use Rattle.majority.specs.declared.Record.{Record}
 
--- the record of this kind with these three fields
-abbrev pub recordOf : ℕ → ℕ → ℕ → ℕ → Record
-recordOf k a b c = record { kind = k; e1 = a; e2 = b; e3 = c }
+-- the record of this kind and block with these three fields
+abbrev pub recordOf : ℕ → ℕ → ℕ → ℕ → ℕ → Record
+recordOf k b x y z = record { kind = k; block = b; e1 = x; e2 = y; e3 = z }
 
 -- a record of no kind, which stands for what is past the end of a table
 abbrev pub blank : Record
-blank = recordOf 0 0 0 0
+blank = recordOf 0 0 0 0 0
 
 abbrev pub input : Record
-input = recordOf 1 0 0 0
+input = recordOf 1 0 0 0 0
 
--- the gate with the three edges x, y and z
-abbrev pub gate : ℕ → ℕ → ℕ → Record
-gate x y z = recordOf 2 x y z
+-- the gate of block b with the three edges x, y and z
+abbrev pub gate : ℕ → ℕ → ℕ → ℕ → Record
+gate b x y z = recordOf 2 b x y z
 
 -- the output with the edge e
 abbrev pub output : ℕ → Record
-output e = recordOf 3 e 0 0
+output e = recordOf 3 0 e 0 0
 
 -- record j, counted from 0
 abbrev pub recordAt : List Record → ℕ → Record

@@ -4,9 +4,10 @@ ghost use Prim.Native.Nat.{max};
 ghost use Rattle.majority.specs.Edge.{nodeOf, isInverted, flip, redirect};
 ghost use Rattle.majority.specs.Value.{majorityOf};
 
-// A record of a table: its kind and its three fields.
+// A record of a table: its kind, its block and its three fields.
 pub struct Record {
-    pub kind: u16,
+    pub kind: u8,
+    pub block: u8,
     pub e1: u16,
     pub e2: u16,
     pub e3: u16,
@@ -20,11 +21,11 @@ pub struct Counts {
 }
 
 // The kinds of records.
-pub const INPUT: u16 = 1;
+pub const INPUT: u8 = 1;
 
-pub const GATE: u16 = 2;
+pub const GATE: u8 = 2;
 
-pub const OUTPUT: u16 = 3;
+pub const OUTPUT: u8 = 3;
 
 // The most inputs, gates and outputs that a table may have, and the most nodes: the constant, the inputs and the gates.
 pub const MOST_INPUTS: usize = 32;

@@ -18,11 +18,11 @@ use Rattle.rules.specs.declared.Named.{Named}
 use Rattle.rules.specs.declared.Named.the-variants.{Known, Unknown}
 use Rattle.majority.specs.declared.Record.{Record}
 use Rattle.majority.specs.declared.Counts.{Counts}
-use Rattle.rules.proofs.AcceptedStep.{Taken, taken-step}
+use Rattle.rules.proofs.AcceptedStep.{gatesAfter, Taken, taken-step}
 use Rattle.majority.proofs.Order.{order-counts}
 use Rattle.majority.proofs.Accepted.{order-of}
 use Rattle.rules.proofs.Sweep.{left-fewer, sweep-kept}
-use Rattle.rules.proofs.Steps.{gatesAfter, taken-count, taken-nodes}
+use Rattle.rules.proofs.Steps.{taken-count, taken-nodes}
 use Rattle.tables.specs.Sound.{Sound, tableIn}
 use Rattle.refusals.specs.Why.{why, whyOf}
 use Rattle.refusals.specs.declared.Refusal.{Refusal}

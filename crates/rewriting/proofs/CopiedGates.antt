@@ -12,6 +12,7 @@ use Rattle.majority.specs.If.{if_then_else_}
 use Rattle.majority.specs.Edge.{nodeOf, isInverted, flip, redirect, raise}
 use Rattle.majority.specs.Table.{recordAt}
 use Rattle.majority.specs.Edit.{edges}
+use Rattle.rules.specs.Voter.{inBlock}
 use Rattle.majority.specs.declared.Record.{Record}
 use Rattle.tables.specs.Bytes.{recordIn, recordsOf, putRecord}
 use Rattle.editing.specs.Edited.{raise16}
@@ -60,14 +61,15 @@ module _ (f : Record → Record) (g up : ℕ) (xs : List ℕ) where
       let same = read ys i (omega (arith, s .long)) ∙ s .records i (omega arith) ∙ mixed-low (i + 1 + up) _ _ i (omega arith) in
       first-down room (recordIn xs) (λ j. f (recordIn xs (j - up))) (i + up) _ (omega arith) (ap f same ∙ rw back) (rw e at s)
 
-pub copying-end : (n g before k e : ℕ) (xs ys : List ℕ) → Copying (edges (copiedBy (copyingOf n g before k e))) g (above n g before) xs n ys → Copied n g before k e xs ys
-copying-end n g before k e xs ys s = record { long = s .long; rest = s .rest; records = λ j h. s .records j h ∙ go j (decLt j (n + up)) }
+pub copying-end : (n g before k e b : ℕ) (xs ys : List ℕ) → Copying (λ r. inBlock b (edges (copiedBy (copyingOf n g before k e)) r)) g (above n g before) xs n ys
+    → Copied n g before k e b xs ys
+copying-end n g before k e b xs ys s = record { long = s .long; rest = s .rest; records = λ j h. s .records j h ∙ go j (decLt j (n + up)) }
   where
     up : ℕ
     up = above n g before
 
     go : (j : ℕ) → Dec (j < n + up)
-        → mixed (n + up) (recordIn xs) (λ i. edges (copiedBy (copyingOf n g before k e)) (recordIn xs (i - up))) j
-        ≡ (if ltb j (n + up) then recordIn xs j else edges (copyEdge n g before k e) (recordIn xs (j - up)))
+        → mixed (n + up) (recordIn xs) (λ i. inBlock b (edges (copiedBy (copyingOf n g before k e)) (recordIn xs (i - up)))) j
+        ≡ (if ltb j (n + up) then recordIn xs j else inBlock b (edges (copyEdge n g before k e) (recordIn xs (j - up))))
     go j (yes l) = mixed-low (n + up) _ _ j l ∙ sym (rw (lt-ltb j (n + up) l))
-    go j (no l) = mixed-high (n + up) _ _ j (omega arith) ∙ record-copied n g before k e (recordIn xs (j - up)) ∙ sym (rw (le-ltb j (n + up) (omega arith)))
+    go j (no l) = mixed-high (n + up) _ _ j (omega arith) ∙ ap (inBlock b) (record-copied n g before k e (recordIn xs (j - up))) ∙ sym (rw (le-ltb j (n + up) (omega arith)))

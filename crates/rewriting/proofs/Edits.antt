@@ -20,7 +20,7 @@ use Rattle.editing.proofs.Changed.{map-at, changed-length, changed-low, changed
 
 -- the record with each of its edges changed alike
 pub same-edges : (f h : ℕ → ℕ) (r : Record) → Each (λ x. f x ≡ h x) r → edges f r ≡ edges h r
-same-edges f h r e = λ d. recordOf (r .kind) (e .0 d) (e .1 d) (e .2 d)
+same-edges f h r e = λ d. recordOf (r .kind) (r .block) (e .0 d) (e .1 d) (e .2 d)
 
 redirect-other : (g e x : ℕ) → nodeOf x < g → redirect g e x ≡ x
 unfolding redirect

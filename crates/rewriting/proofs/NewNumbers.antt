@@ -74,7 +74,7 @@ module _ (t : List Record) where
         let p1 = renumbered-edge (r .e1) (low .first) in
         let p2 = renumbered-edge (r .e2) (low .second) in
         let p3 = renumbered-edge (r .e3) (low .third) in
-        λ d. record { kind = r .kind; e1 = p1 d; e2 = p2 d; e3 = p3 d }
+        λ d. record { kind = r .kind; block = r .block; e1 = p1 d; e2 = p2 d; e3 = p3 d }
 
 -- those of a well-formed table
 module _ {n m o : ℕ} {t : List Record} (formed : WellFormed n m o t) where

@@ -21,12 +21,13 @@ module _ (xs ys : List ℕ) (i : ℕ) (same : drop (8 * i) ys ≡ drop (8 * i) x
 
   pub same-record : recordIn ys i ≡ recordIn xs i
   same-record =
-      let e : 4 * i + 0 ≡ 4 * i = omega arith in
-      let p0 : fieldAt ys (4 * i) ≡ fieldAt xs (4 * i) = rw e at (same-field 0) in
+      let e : 8 * i + 0 ≡ 8 * i = omega arith in
+      let k : getD ys (8 * i) 0 ≡ getD xs (8 * i) 0 = rw e at (same-byte 0) in
+      let b = same-byte 1 in
       let p1 = same-field 1 in
       let p2 = same-field 2 in
       let p3 = same-field 3 in
-      λ d. record { kind = p0 d; e1 = p1 d; e2 = p2 d; e3 = p3 d }
+      λ d. record { kind = k d; block = b d; e1 = p1 d; e2 = p2 d; e3 = p3 d }
 
   pub same-later : (j : ℕ) → i ≤ j → drop (8 * j) ys ≡ drop (8 * j) xs
   same-later j h =

@@ -16,7 +16,7 @@ use Rattle.majority.specs.declared.Record.{Record}
 use Rattle.majority.specs.declared.Counts.{Counts}
 use Rattle.majority.proofs.Logic.{both}
 use Rattle.rules.specs.Rules.{plain}
-use Rattle.rules.specs.Voter.{edgeTo, pairIn, pairGate, pairPolarity, voterForm, Copy, own, copied, root, firstCopy, secondCopy, thirdCopy, copies, votes, voter}
+use Rattle.rules.specs.Voter.{edgeTo, pairIn, pairGate, pairPolarity, voterForm, Copy, own, inBlock, blockOf, copied, root, firstCopy, secondCopy, thirdCopy, copies, votes, voter}
 use Rattle.rules.proofs.Raise.{raise-below, raise-from}
 use Rattle.rules.proofs.Edges.{redirect-lowers}
 use Rattle.rules.proofs.Redirect.{redirected-at}
@@ -75,17 +75,18 @@ module _ {xs : List ℕ} {c : Counts} {g a b : ℕ} (can : Votable xs c g a b) w
     abbrev made : ℕ → ℕ
     made = copyEdge n g (copy .before) (copy .node) (copy .edge)
 
-    gate-made : (i : ℕ) → i < k → edges made (recordAt table (n + i)) ≡ recordAt news (copy .before + i)
+    gate-made : (i : ℕ) → i < k → inBlock (blockOf table g) (edges made (recordAt table (n + i))) ≡ recordAt news (copy .before + i)
     gate-made i h =
         let few = at-small (can .at) in
         let low = rw (redirected-at (copy .node) (copy .edge) (is .formed) (here .stands .some) (here .stands .lower) (n + i)) at (copy-reads is here i h) in
         let near : n + i ≤ 1056 = omega (arith, can .at .upto) in
-        same-edges made (λ x. own n g (copy .before) (redirect (copy .node) (copy .edge) x)) (recordAt table (n + i)) (
+        ap (inBlock (blockOf table g))
+        (same-edges made (λ x. own n g (copy .before) (redirect (copy .node) (copy .edge) x)) (recordAt table (n + i)) (
           short n (above n g (copy .before)) _ (omega (arith, low .first)) small,
           short n (above n g (copy .before)) _ (omega (arith, low .second)) small,
           short n (above n g (copy .before)) _ (omega (arith, low .third)) small,
-        )
-        ∙ sym (there is here i h ∙ ap (edges (own n g (copy .before))) (redirected-at (copy .node) (copy .edge) (is .formed) (here .stands .some) (here .stands .lower) (n + i)))
+        ))
+        ∙ sym (there is here i h ∙ ap (λ (r : Record). inBlock (blockOf table g) (edges (own n g (copy .before)) r)) (redirected-at (copy .node) (copy .edge) (is .formed) (here .stands .some) (here .stands .lower) (n + i)))
 
     pub root-made : copiedBy (copyingOf n g (copy .before) (copy .node) (copy .edge)) (plain g) ≡ root n g copy
     root-made =
@@ -156,7 +157,7 @@ module _ {xs : List ℕ} {c : Counts} {g a b : ℕ} (can : Votable xs c g a b) w
     small : u ≤ 5000
     small = omega (arith, can .at .upto, at-small (can .at), can .few)
 
-    pub voting-next : {ys zs : List ℕ} → Voting (copy .before + k) ys → Copied n g (copy .before) (copy .node) (copy .edge) ys zs → Voting (copy .before) zs
+    pub voting-next : {ys zs : List ℕ} → Voting (copy .before + k) ys → Copied n g (copy .before) (copy .node) (copy .edge) (blockOf table g) ys zs → Voting (copy .before) zs
     voting-next {ys} {zs} s made =
         let some = can .at .from in
         record {
@@ -178,7 +179,7 @@ module _ {xs : List ℕ} {c : Counts} {g a b : ℕ} (can : Votable xs c g a b) w
             let source : j - u ≡ n + i = omega arith in
             let place : g - 1 + (copy .before + i) ≡ j = omega arith in
             rw (le-ltb j (n + u) (omega arith), source) at (made .records j l)
-            ∙ ap (edges (copyEdge n g (copy .before) (copy .node) (copy .edge)))
+            ∙ ap (λ (r : Record). inBlock (blockOf table g) (edges (copyEdge n g (copy .before) (copy .node) (copy .edge)) r))
             (s .records (n + i) (omega arith) ∙ mixed-low (g - 1 + (copy .before + k)) _ _ (n + i) (omega arith) ∙ upto (n + i) (omega arith))
             ∙ gate-made copy here small i (omega arith)
             ∙ rw place at (sym (grown-new g news (tableOf xs records) inside (copy .before + i) (omega (arith, as-many))))
@@ -202,17 +203,17 @@ module _ {xs : List ℕ} {c : Counts} {g a b : ℕ} (can : Votable xs c g a b) w
       go j (no l) = mixed-high (g - 1 + 0) _ _ j (omega arith)
 
   -- the copies, from the last to the first
-  pub third-made : {ys zs : List ℕ} → Voting (3 * k) ys → Copied n g (2 * k) (pairGate n g a b table) (edgeTo (pairPolarity n g a b table) b) ys zs → Voting (2 * k) zs
+  pub third-made : {ys zs : List ℕ} → Voting (3 * k) ys → Copied n g (2 * k) (pairGate n g a b table) (edgeTo (pairPolarity n g a b table) b) (blockOf table g) ys zs → Voting (2 * k) zs
   third-made {ys} s made =
       let e : 3 * k ≡ 2 * k + k = omega arith in
       voting-next (thirdCopy n g a b table) (third-in is a b (can .order) (can .form)) (omega arith) (subst (λ (t : ℕ). Voting t ys) e s) made
 
-  pub second-made : {ys zs : List ℕ} → Voting (2 * k) ys → Copied n g k (pairGate n g a b table) (edgeTo (pairPolarity n g a b table) a) ys zs → Voting k zs
+  pub second-made : {ys zs : List ℕ} → Voting (2 * k) ys → Copied n g k (pairGate n g a b table) (edgeTo (pairPolarity n g a b table) a) (blockOf table g) ys zs → Voting k zs
   second-made {ys} s made =
       let e : 2 * k ≡ k + k = omega arith in
       voting-next (secondCopy n g a b table) (second-in is a b (can .order) (can .form)) (omega arith) (subst (λ (t : ℕ). Voting t ys) e s) made
 
-  pub first-made : {ys zs : List ℕ} → Voting k ys → Copied n g 0 b (edgeTo true a) ys zs → Voting 0 zs
+  pub first-made : {ys zs : List ℕ} → Voting k ys → Copied n g 0 b (edgeTo true a) (blockOf table g) ys zs → Voting 0 zs
   first-made {ys} s made =
       let e : k ≡ 0 + k = omega arith in
       voting-next (firstCopy n g a b table) (first-in is a b (can .order) (can .form)) (omega arith) (subst (λ (t : ℕ). Voting t ys) e s) made

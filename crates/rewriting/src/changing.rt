@@ -73,7 +73,7 @@ fn outward(s: &mut [u8], counts: Counts, gate: u16)
     put_record(
         s,
         gate as usize + 1,
-        outward_gate(plain(gate), plain(gate + 1), h),
+        outward_gate(r, plain(gate), plain(gate + 1), h),
     );
 }
 
@@ -85,7 +85,7 @@ fn inward(s: &mut [u8], counts: Counts, gate: u16)
     let p = named_record(s, r.e1);
     let q = named_record(s, r.e2);
     insert(s, records(counts), gate, inward_new(r, p, q));
-    put_record(s, gate as usize, inward_gate(p, plain(gate)));
+    put_record(s, gate as usize, inward_gate(r, p, plain(gate)));
 }
 
 fn inversion(s: &mut [u8], counts: Counts, gate: u16)

@@ -99,6 +99,7 @@ fn renumbered_record(numbers: &[u16; 1057], r: Record) -> Record
 {
     Record {
         kind: r.kind,
+        block: r.block,
         e1: renumbered(numbers, r.e1),
         e2: renumbered(numbers, r.e2),
         e3: renumbered(numbers, r.e3),

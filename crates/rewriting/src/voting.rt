@@ -18,7 +18,7 @@ ghost use Prim.Native.Nat.{_+_, _≤_, _<_, max};
 ghost use lib.Dec.{leb};
 ghost use Rattle.majority.specs.Edit.{edges};
 ghost use Rattle.majority.specs.Level.{level as levelOf};
-ghost use Rattle.rules.specs.Voter.{edgeTo, pairIn, hasPair, pairGate, voterForm, voter as voterRule};
+ghost use Rattle.rules.specs.Voter.{edgeTo, pairIn, hasPair, pairGate, voterForm, inBlock, voter as voterRule};
 ghost use Rattle.tables.specs.Bytes.{holding};
 ghost use Rattle.tables.specs.Sound.{Sound, tableIn};
 ghost use Rattle.rewriting.specs.inner.Fitting.{AtGate, Votable};
@@ -156,21 +156,23 @@ fn copied_edge(copy: Change, edge: u16) -> u16
     wrapping_add_u16(e, rise_of(copy, e))
 }
 
-fn copied_record(copy: Change, r: Record) -> Record
-    ensures { λ q. ⌜ q ≡ edges (copiedBy copy) r ⌝ }
+// A record as it stands in the copy, in a block.
+fn copied_record(copy: Change, block: u8, r: Record) -> Record
+    ensures { λ q. ⌜ q ≡ inBlock block (edges (copiedBy copy) r) ⌝ }
 {
     Record {
         kind: r.kind,
+        block,
         e1: copied_edge(copy, r.e1),
         e2: copied_edge(copy, r.e2),
         e3: copied_edge(copy, r.e3),
     }
 }
 
-// Copies the gates up to the given one, from the last down, to the places after `before` inserted gates.
-fn copy_gates(s: &mut [u8], inputs: usize, gate: u16, before: usize, from: u16, to: u16)
+// Copies the gates up to the given one, from the last down, to the places after `before` inserted gates, all into one block.
+fn copy_gates(s: &mut [u8], inputs: usize, gate: u16, before: usize, from: u16, to: u16, block: u8)
     requires { ⌜ Copyable inputs gate before from (now s) ⌝ }
-    ensures { λ _. ⌜ Copied inputs gate before from to (now (s .entry)) (now (s .exit)) ⌝ }
+    ensures { λ _. ⌜ Copied inputs gate before from to block (now (s .entry)) (now (s .exit)) ⌝ }
 {
     let up = gate as usize + before - inputs - 1;
     // never so, but now the compiler knows it, and drops the tests in the loop
@@ -184,7 +186,7 @@ fn copy_gates(s: &mut [u8], inputs: usize, gate: u16, before: usize, from: u16, 
         done += 1;
         let i = gate as usize - done;
         let r = record_at(s, i);
-        put_record(s, i + up, copied_record(copy, r));
+        put_record(s, i + up, copied_record(copy, block, r));
     }
 }
 
@@ -194,6 +196,7 @@ pub(crate) fn vote(s: &mut [u8], counts: Counts, gate: u16, a: u16, b: u16)
     requires { ⌜ Votable (now s) counts gate a b ⌝ }
     ensures { λ _. ⌜ now (s .exit) ≡ holding (voterRule (counts .inputs) gate a b (tableIn (now (s .entry)) counts)) (now (s .entry)) ⌝ }
 {
+    let block = node_record(s, gate).block;
     let inputs = counts.inputs;
     let c = pair_gate(s, counts, gate, a, b);
     let inverted = pair_in(true, a, b, node_record(s, c));
@@ -202,9 +205,9 @@ pub(crate) fn vote(s: &mut [u8], counts: Counts, gate: u16, a: u16, b: u16)
     let not_a = edge_to(true, a);
     let k = gate as usize - inputs;
     make_room(s, records(counts), gate, 3 * k);
-    copy_gates(s, inputs, gate, 2 * k, c, to_b);
-    copy_gates(s, inputs, gate, k, c, to_a);
-    copy_gates(s, inputs, gate, 0, b, not_a);
+    copy_gates(s, inputs, gate, 2 * k, c, to_b, block);
+    copy_gates(s, inputs, gate, k, c, to_a, block);
+    copy_gates(s, inputs, gate, 0, b, not_a, block);
     let own = plain(gate);
     let first = copied_edge(copying(inputs, gate, 0, b, not_a), own);
     let second = copied_edge(copying(inputs, gate, k, c, to_a), own);
@@ -214,6 +217,7 @@ pub(crate) fn vote(s: &mut [u8], counts: Counts, gate: u16, a: u16, b: u16)
         gate as usize - 1 + 3 * k,
         Record {
             kind: GATE,
+            block,
             e1: first,
             e2: second,
             e3: third,

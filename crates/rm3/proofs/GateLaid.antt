@@ -16,22 +16,22 @@ use Rattle.rm3.specs.declared.writing.Spot.{Spot}
 use Rattle.rm3.proofs.TableLaid.{grows-then, grows-put}
 
 module _ (operands : List ℕ) (gate : Record) {at : ℕ} {first second third : Spot} {xs xs1 xs2 xs3 : List ℕ}
-    (one : Places (place (eqb (middleOf gate) 1) operands (gate .e1)) at first xs xs1)
-    (two : Places (place (eqb (middleOf gate) 2) operands (gate .e2)) (first .at) second xs1 xs2)
-    (three : Places (place (eqb (middleOf gate) 3) operands (gate .e3)) (second .at) third xs2 xs3) where
+    (one : Places (place (gate .block) (eqb (middleOf gate) 1) operands (gate .e1)) at first xs xs1)
+    (two : Places (place (gate .block) (eqb (middleOf gate) 2) operands (gate .e2)) (first .at) second xs1 xs2)
+    (three : Places (place (gate .block) (eqb (middleOf gate) 3) operands (gate .e3)) (second .at) third xs2 xs3) where
   abbrev made : Record
-  made = inOrder (middleOf gate) (first .operand) (second .operand) (third .operand)
+  made = inOrder (gate .block) (middleOf gate) (first .operand) (second .operand) (third .operand)
 
   -- from one table of `at` records
   module _ (ts : List Record) (here : length ts ≡ at) where
     abbrev p : Placed
-    p = place (eqb (middleOf gate) 1) operands (gate .e1) ts
+    p = place (gate .block) (eqb (middleOf gate) 1) operands (gate .e1) ts
 
     abbrev q : Placed
-    q = place (eqb (middleOf gate) 2) operands (gate .e2) (p .table)
+    q = place (gate .block) (eqb (middleOf gate) 2) operands (gate .e2) (p .table)
 
     abbrev s : Placed
-    s = place (eqb (middleOf gate) 3) operands (gate .e3) (q .table)
+    s = place (gate .block) (eqb (middleOf gate) 3) operands (gate .e3) (q .table)
 
     after-first : length (p .table) ≡ first .at
     after-first = one .writes .size ts here
@@ -52,8 +52,8 @@ module _ (operands : List ℕ) (gate : Record) {at : ℕ} {first second third : 
     grows : Grows ts (gate3 operands gate ts) xs (putRecord xs3 (third .at) made)
     grows =
         rw (whole, ← after-third)
-        (grows-then (omega (arith, place-begins operands (gate .e3) (q .table) (eqb (middleOf gate) 3) .longer, length-more (s .table) made))
-        (grows-then (place-begins operands (gate .e2) (p .table) (eqb (middleOf gate) 2) .longer) (one .writes .grows ts here) (two .writes .grows (p .table) after-first))
+        (grows-then (omega (arith, place-begins (gate .block) operands (gate .e3) (q .table) (eqb (middleOf gate) 3) .longer, length-more (s .table) made))
+        (grows-then (place-begins (gate .block) operands (gate .e2) (p .table) (eqb (middleOf gate) 2) .longer) (one .writes .grows ts here) (two .writes .grows (p .table) after-first))
         (grows-then (omega (arith, length-more (s .table) made)) (three .writes .grows (q .table) after-second) (grows-put (s .table) made xs3)))
 
   pub gate-writes : Writes (gate3 operands gate) at (third .at + 1) xs (putRecord xs3 (third .at) made)

@@ -43,7 +43,7 @@ module _ {bytes : List ℕ} {c : Counts} (sound : Sound bytes c) where
 
   -- one output more
   pub naming-more : {ys operands xs xs′ : List ℕ} {j at : ℕ} {spot : Spot} (e : ℕ) → e ≡ recordAt rs (c .inputs + c .gates + j) .e1 → j < c .outputs → 8 * (operandsIn rs c + c .outputs) ≤ length ys
-      → Places (place false operands e) at spot xs xs′ → Naming c rs ys j at operands xs
+      → Places (place 0 false operands e) at spot xs xs′ → Naming c rs ys j at operands xs
       → Naming c rs ys (j + 1) (spot .at) operands (putRecord xs′ (operandsIn rs c + j) (output (spot .operand)))
   naming-more {ys} {operands} {xs} {xs′} {j} {at} {spot} e is h room places so =
       let formed = sound-formed sound in
@@ -51,10 +51,10 @@ module _ {bytes : List ℕ} {c : Counts} (sound : Sound bytes c) where
       let os = so .outputs in
       let one : j + 1 ≡ suc j = omega arith in
       let low = reads-nodes formed (c .inputs + c .gates + j) (omega (arith, formed .whole)) .first in
-      let same : place false (take (suc (c .inputs + c .gates)) operands) (recordAt rs (c .inputs + c .gates + j) .e1) ts ≡ place false operands e ts =
-      place-front false operands (recordAt rs (c .inputs + c .gates + j) .e1) (suc (c .inputs + c .gates)) low ts ∙ rw (← is)
+      let same : place 0 false (take (suc (c .inputs + c .gates)) operands) (recordAt rs (c .inputs + c .gates + j) .e1) ts ≡ place 0 false operands e ts =
+      place-front 0 false operands (recordAt rs (c .inputs + c .gates + j) .e1) (suc (c .inputs + c .gates)) low ts ∙ rw (← is)
       in
-      let p = place false operands e ts in
+      let p = place 0 false operands e ts in
       let named = rw same at (named-more formed h (so .named)) in
       let within = begins-size formed (named-table formed named) in
       let grown = places .writes .grows ts (so .here) .laid ys (operandsIn rs c) os within (omega (arith, so .named .count)) (so .laid) in

@@ -1,4 +1,4 @@
--- What a reply of `translate` tells its caller: the length fits the buffer and covers inputs and outputs, the bytes of that length hold the RM3 table, and 25,344 bytes are room for any table.
+-- What a reply of `translate` tells its caller: the length fits the buffer and covers inputs and outputs, the bytes of that length hold the RM3 table, whose records have their blocks, and 25,344 bytes are room for any table.
 use Prim.Native.Nat.{ℕ, _+_, _*_, _/_, _≤_}
 use mathlib.Core.Path.{_≡_, refl, sym, ap, _∙_}
 use mathlib.Core.Bool.{Bool, true, false}
@@ -10,14 +10,17 @@ use lib.ListN.{length}
 use Rattle.refusals.specs.Why.{Why, why}
 use Rattle.majority.specs.If.{if_then_else_}
 use Rattle.translation.specs.Translate.{translation}
+use Rattle.translation.specs.Block3.{Blocks3}
 use Rattle.refusals.specs.Reply.{Reply, accepted, refused, andThen}
 use Rattle.majority.specs.declared.Record.{Record}
 use Rattle.majority.specs.declared.Counts.{Counts}
+use Rattle.translation.proofs.Rm3Blocks.{translated-blocks}
 use Rattle.tables.specs.Bytes.{tableOf}
 use Rattle.tables.specs.Sound.{tableIn}
 use Rattle.tables.specs.Calls.{checkOf}
 use Rattle.tables.proofs.Encoded.{holding-table}
 use Rattle.tables.proofs.AfterCheck.{checked-sound, checked-table}
+use Rattle.tables.proofs.Sound.{sound-formed}
 use Rattle.rm3.specs.Calls.{rm3In, rm3Of, inBytes, translateOf, afterReply, translateBytes}
 use Rattle.rm3.proofs.FitsBuffer.{fitting-size, fitting-small, fitting}
 
@@ -80,3 +83,7 @@ module _ (xs : List ℕ) (used : ℕ) (ys : List ℕ) (l : ℕ) (c : Counts) (ch
       go : (t : Bool) → andThen (if t then refused (why 11) else accepted made) inBytes ≡ accepted l → tableOf (afterReply (if t then refused (why 11) else accepted made) ys) (l / 8) ≡ made
       go true e = absurd (apart e)
       go false e = let k : l / 8 ≡ length made = omega (arith, same-length e) in rw k (holding-table made ys)
+
+  -- and so each of them has its block
+  pub reply-blocks : Blocks3 (c .inputs) (c .gates) (tableOf xs (used / 8)) (tableOf (translateBytes xs used ys) (l / 8))
+  reply-blocks = rw (reply-table, checked-table xs used c checked) (translated-blocks (sound-formed (checked-sound xs used c checked)))

@@ -40,9 +40,9 @@ module _ {n m o : ℕ} {rs : List Record} (formed : WellFormed n m o rs) where
       (begins-then (nodes-begin operands ts (drop i (take (n + m) rs)) .1) (outputs-begin _ _ [] (drop (n + m) rs)))
 
   pub named-more : {operands : List ℕ} {j : ℕ} {ts os : List Record} → j < o → Named n m rs operands j ts os
-      → let p = place false operands (recordAt rs (n + m + j) .e1) ts in Named n m rs operands (suc j) (p .table) (os ++ output (p .operand) ∷ [])
+      → let p = place 0 false operands (recordAt rs (n + m + j) .e1) ts in Named n m rs operands (suc j) (p .table) (os ++ output (p .operand) ∷ [])
   named-more {operands} {j} {ts} {os} h so =
-      let p = place false operands (recordAt rs (n + m + j) .e1) ts in
+      let p = place 0 false operands (recordAt rs (n + m + j) .e1) ts in
       let next : n + m + suc j ≡ suc (n + m + j) = omega arith in
       record {
         count = omega (arith, so .count, length-more os (output (p .operand)));

@@ -37,17 +37,18 @@ pub(crate) struct Spot {
     pub at: u16,
 }
 
-// Finds the operand of an edge, and puts the helper that it may need behind the `at` records so far.
+// Finds the operand of an edge, and puts the helper that it may need, of this block, behind the `at` records so far.
 fn place(
     operands: &[u16; 1057],
     edge: u16,
     middle: bool,
     helped: bool,
+    block: u8,
     at: u16,
     out: &mut [u8],
 ) -> Spot
     requires { ⌜ (nodeOf edge < 1057) × (helped ≡ needsHelper middle (classOf edge)) × (at ≤ 4000) ⌝ }
-    ensures { λ r. ⌜ Places (placeOf middle (now (operands .entry)) edge) at r (now (out .entry)) (now (out .exit)) ⌝ }
+    ensures { λ r. ⌜ Places (placeOf block middle (now (operands .entry)) edge) at r (now (out .entry)) (now (out .exit)) ⌝ }
 {
     if node(edge) == 0 {
         if middle {
@@ -60,7 +61,7 @@ fn place(
     }
     let operand = operands[node(edge) as usize];
     if helped {
-        put_record(out, at as usize, operation(0, operand, 1));
+        put_record(out, at as usize, operation(block, 0, operand, 1));
         return Spot {
             operand: at + 2,
             at: at + 1,
@@ -75,10 +76,11 @@ fn put_gate(operands: &[u16; 1057], gate: Record, at: u16, out: &mut [u8]) -> u1
     ensures { λ r. ⌜ Writes (gate3 (now (operands .entry)) gate) at r (now (out .entry)) (now (out .exit)) ⌝ }
 {
     let p = pattern_of(gate);
-    let first = place(operands, gate.e1, p.middle == 1, p.first, at, out);
-    let second = place(operands, gate.e2, p.middle == 2, p.second, first.at, out);
-    let third = place(operands, gate.e3, p.middle == 3, p.third, second.at, out);
-    let last = in_order(p.middle, first.operand, second.operand, third.operand);
+    let b = gate.block;
+    let first = place(operands, gate.e1, p.middle == 1, p.first, b, at, out);
+    let second = place(operands, gate.e2, p.middle == 2, p.second, b, first.at, out);
+    let third = place(operands, gate.e3, p.middle == 3, p.third, b, second.at, out);
+    let last = in_order(b, p.middle, first.operand, second.operand, third.operand);
     put_record(out, third.at as usize, last);
     third.at + 1
 }
@@ -97,6 +99,7 @@ fn put_node(operands: &[u16; 1057], r: Record, at: u16, out: &mut [u8]) -> u16
             at as usize,
             Record {
                 kind: INPUT,
+                block: 0,
                 e1: 0,
                 e2: 0,
                 e3: 0,
@@ -138,7 +141,7 @@ fn put_outputs(
     let mut j = 0;
     while j < counts.outputs {
         let edge = record_at(s, counts.inputs + counts.gates + j).e1;
-        let spot = place(operands, edge, false, output_helped(edge), at, out);
+        let spot = place(operands, edge, false, output_helped(edge), 0, at, out);
         put_record(out, first + j, output(spot.operand));
         at = spot.at;
         j += 1;

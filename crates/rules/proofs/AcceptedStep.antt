@@ -9,12 +9,20 @@ use lib.Dec.{ltb, leb, eqb}
 use lib.ListN.{length}
 use Rattle.refusals.specs.Why.{why}
 use Rattle.refusals.specs.Reply.{Reply, accepted, refused, andThen}
+use Rattle.majority.specs.If.{if_then_else_}
+use Rattle.majority.specs.Table.{WellFormed}
 use Rattle.majority.specs.declared.Record.{Record}
 use Rattle.majority.proofs.Logic.{both, passed}
 use Rattle.rules.specs.Step.{ruleOf, isSweep, isGate, gateFits, fieldsFit, hasForm, inserted, rewritten, stepBy, step}
 use Rattle.rules.specs.declared.Step.{Step}
 use Rattle.rules.specs.declared.Rule.{Rule}
 use Rattle.rules.specs.declared.Rule.the-variants.{Share, Voter}
+use Rattle.rules.proofs.GateNodes.{GateOf}
+use Rattle.rules.proofs.Sweep.{left}
+
+-- how many gates a step of this rule on node g leaves, of m
+abbrev pub gatesAfter : ℕ → ℕ → List Record → Rule → ℕ → ℕ
+gatesAfter n m rs rule g = if isSweep rule then left n m rs else m + inserted n rule g
 
 -- what an accepted step of a rule is
 pub record Taken (bytes n m : ℕ) (rs : List Record) (rule : Rule) (g a b : ℕ) (rs′ : List Record) : Type 0 where
@@ -82,3 +90,7 @@ module _ (n m g a b : ℕ) where
       let w = both (ltb 0 a && ltb a b) (ltb b g) (both (isGate n m g) (ltb 0 a && ltb a b && ltb b g) h .1) in
       let v = both (ltb 0 a) (ltb a b) (w .0) in
       (ltb-true _ _ (v .0), ltb-true _ _ (v .1), ltb-true _ _ (w .1))
+
+-- the gate of a step
+pub gate-of : {n m o : ℕ} {rs : List Record} → WellFormed n m o rs → (g a b : ℕ) (rule : Rule) → isSweep rule ≡ false → fieldsFit n m rule g a b ≡ true → GateOf n m o g rs
+gate-of {n} {m} formed g a b rule other fields = let w = gate-field n m g a b rule other fields in record { formed = formed; from = w .0; upto = w .1 }

@@ -30,10 +30,10 @@ module _ {n m o g : ℕ} {rs : List Record} (is : GateOf n m o g rs) where
 
   -- the inserted gate, and what g becomes
   abbrev new : Record
-  new = gate (h .e1) (r .e2) (r .e1)
+  new = gate (r .block) (h .e1) (r .e2) (r .e1)
 
   abbrev last : Record
-  last = gate (h .e3) (r .e2) (plain g)
+  last = gate (r .block) (h .e3) (r .e2) (plain g)
 
   module _ (form : associativityForm n r h ≡ true) where
     is-plain : plainGate n (r .e3) ≡ true

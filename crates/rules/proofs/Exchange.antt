@@ -21,17 +21,17 @@ module _ {n m o g : ℕ} {rs : List Record} (is : GateOf n m o g rs) where
   abbrev r : Record
   r = nodeRecord rs g
 
-  either : (t : Bool) → NodesKept 0 n m m o inPlace rs (become g (if t then gate (r .e2) (r .e1) (r .e3) else gate (r .e3) (r .e2) (r .e1)) rs)
+  either : (t : Bool) → NodesKept 0 n m m o inPlace rs (become g (if t then gate (r .block) (r .e2) (r .e1) (r .e3) else gate (r .block) (r .e3) (r .e2) (r .e1)) rs)
   either true =
       let low = gate-reads is in
       let under = gate-level is in
-      become-kept is (gate (r .e2) (r .e1) (r .e3)) refl (record { first = low .second; second = low .first; third = low .third }) 0
+      become-kept is (gate (r .block) (r .e2) (r .e1) (r .e3)) refl (record { first = low .second; second = low .first; third = low .third }) 0
       (λ a. gate-node is (values a) ∙ sym (majority-first-second _ _ _))
       (above-least _ _ _ _ (omega (arith, under .1)) (omega (arith, under .0)) (omega (arith, under .2)))
   either false =
       let low = gate-reads is in
       let under = gate-level is in
-      become-kept is (gate (r .e3) (r .e2) (r .e1)) refl (record { first = low .third; second = low .second; third = low .first }) 0
+      become-kept is (gate (r .block) (r .e3) (r .e2) (r .e1)) refl (record { first = low .third; second = low .second; third = low .first }) 0
       (λ a. gate-node is (values a) ∙ sym (majority-first-third _ _ _))
       (above-least _ _ _ _ (omega (arith, under .2)) (omega (arith, under .1)) (omega (arith, under .0)))
 

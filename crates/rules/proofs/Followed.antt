@@ -1,4 +1,5 @@
--- What a probe shows after an accepted step: a gate that stays is a gate, with its first value or, where an odd number of inversion steps named it, the inverse.
+-- What a probe shows after an accepted step: a gate that stays is a gate of its first block, with its first value or, where an odd number of inversion steps named
+-- it, the inverse.
 use Prim.Native.Nat.{ℕ, _+_, _%_, _≤_, _<_}
 use mathlib.Core.Path.{_≡_, refl, sym, ap, _∙_}
 use mathlib.Core.Bool.{Bool, true, false, not, _&&_}
@@ -16,7 +17,7 @@ use Rattle.majority.specs.Check.{count}
 use Rattle.majority.specs.declared.Record.{Record}
 use Rattle.majority.proofs.Meanings.{not-twice}
 use Rattle.rules.specs.Rules.{plain}
-use Rattle.rules.specs.Voter.{edgeTo}
+use Rattle.rules.specs.Voter.{edgeTo, blockOf}
 use Rattle.rules.specs.Kept.{Moves, movesAs, movesBy, turned, NodesKept}
 use Rattle.rules.specs.Step.{step, deepensBy, votersBy}
 use Rattle.rules.specs.Followed.{Probe, stands, swept, inverts, followed, odd, movedEdge, followedEdge, Present, Shows}
@@ -26,7 +27,7 @@ use Rattle.rules.proofs.Kept.{turned-twice}
 use Rattle.rules.proofs.Pair.{edge-to-node, edge-to-polarity, edge-to-value}
 use Rattle.rules.proofs.Numbered.{rule-number, number-of-inversion}
 use Rattle.rules.proofs.AcceptedStep.{ruled}
-use Rattle.rules.proofs.Steps.{step-nodes}
+use Rattle.rules.proofs.Steps.{step-nodes, step-blocks}
 
 turned-back : (t v : Bool) → turned t (turned t v) ≡ v
 turned-back true v = not-twice v
@@ -34,12 +35,14 @@ turned-back false v = refl
 
 module _ {n m : ℕ} {first rs : List Record} {g : ℕ} where
   -- the edge follows from the rest
-  made-present : {k named : ℕ} → n < k → k ≤ n + m → ((a : ℕ) → value a rs k ≡ turned (odd named) (value a first g)) → Present n m first rs g k named
-  made-present {k} {named} from upto same = record {
+  made-present : {k named : ℕ} → n < k → k ≤ n + m → ((a : ℕ) → value a rs k ≡ turned (odd named) (value a first g)) → blockOf rs k ≡ blockOf first g
+      → Present n m first rs g k named
+  made-present {k} {named} from upto same block = record {
     from = from;
     upto = upto;
     same = same;
     edge = λ a. edge-to-value a (value a rs) (odd named) k ∙ ap (turned (odd named)) (same a) ∙ turned-back (odd named) _;
+    block = block;
   }
 
   -- a gate that is present, and one that was swept away
@@ -51,7 +54,7 @@ module _ {n m : ℕ} {first rs : List Record} {g : ℕ} where
 
 -- before any step
 pub shows-first : {n m g : ℕ} (first : List Record) → n < g → g ≤ n + m → Shows n m first first g (stands g 0) (plain g)
-shows-first first from upto = shows-present (made-present from upto (λ a. refl))
+shows-first first from upto = shows-present (made-present from upto (λ a. refl) refl)
 
 -- one more makes an even number odd, and an odd one even
 odd-more : (t : ℕ) (b : Bool) → odd (t + (if b then 1 else 0)) ≡ turned b (odd t)
@@ -87,6 +90,7 @@ module _ {n m o : ℕ} {rs : List Record} (formed : WellFormed n m o rs) (bytes 
         ∙ ap (turned (moves .inverted k)) (was .same a)
         ∙ turned-twice (odd named) (moves .inverted k) (value a first g)
         ∙ ap (λ (t : Bool). turned t (value a first g)) (sym (parity k named)))
+        (step-blocks formed bytes s rs′ e .stayed k (omega (arith, was .from)) (omega (arith, was .upto)) there ∙ was .block)
 
     pub step-shows : (p : Probe) (x : ℕ) → Shows n m first rs g p x → Shows n (count 2 rs′) first rs′ g (followed n rs s p) (followedEdge n rs s x)
     unfolding movedEdge

@@ -77,7 +77,7 @@ module _ {n m o g : ℕ} {rs : List Record} (is : GateOf n m o g rs) (news : Lis
   module _ {A : Type 0} (𝓜 : Meaning A) where
     -- an old node keeps its worth
     pub insert-nodes : (k : ℕ) → k ≤ n + m + o → worth 𝓜 rs k ≡ worth 𝓜 after (raised g c k)
-    insert-nodes = raised-nodes (is .formed) insert-formed g c (n + m + o) (is .from) (omega arith) (omega arith) (λ j h. insert-old g news rs some fits j) 𝓜
+    insert-nodes = raised-nodes (is .formed) insert-formed g c (n + m + o) (is .from) (omega arith) (omega arith) (λ j. recordAt rs j .block) (λ j h. insert-old g news rs some fits j) 𝓜
 
     pub insert-lower : (k : ℕ) → k < g → worth 𝓜 after k ≡ worth 𝓜 rs k
     insert-lower k h = ap (worth 𝓜 after) (sym (raised-below g c k h)) ∙ sym (insert-nodes k (omega (arith, is .upto)))

@@ -33,10 +33,10 @@ module _ {n m o g : ℕ} {rs : List Record} (is : GateOf n m o g rs) where
 
   -- the inserted gate, and what g becomes
   abbrev new : Record
-  new = gate (p .e3) (q .e3) (r .e3)
+  new = gate (r .block) (p .e3) (q .e3) (r .e3)
 
   abbrev last : Record
-  last = gate (p .e1) (p .e2) (plain g)
+  last = gate (r .block) (p .e1) (p .e2) (plain g)
 
   -- what the form says
   record Form : Type 0 where

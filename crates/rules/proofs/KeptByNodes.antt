@@ -10,6 +10,7 @@ use Rattle.majority.specs.Node.{Meaning, edgeWorth, worth}
 use Rattle.majority.specs.Value.{values, value, outputValue}
 use Rattle.majority.specs.Level.{level}
 use Rattle.majority.specs.Edit.{edges}
+use Rattle.rules.specs.Voter.{inBlock}
 use Rattle.rules.specs.Kept.{Moves, inPlace, NodesKept, Kept}
 use Rattle.majority.specs.declared.Record.{Record}
 use Rattle.majority.proofs.Nodes.{Respects, equals, record-related, edge-agrees, node-induction, node-zero}
@@ -50,22 +51,22 @@ abbrev pub Each : (ℕ → Type 0) → Record → Type 0
 Each P r = P (r .e1) × P (r .e2) × P (r .e3)
 
 module _ {n m m′ o : ℕ} {rs rs′ : List Record} (old : WellFormed n m o rs) (new : WellFormed n m′ o rs′) {A : Type 0} (𝓜 : Meaning A) where
-  -- record j′ of the new table is record j of the old, but that f changed its edges
-  pub counterpart : (Q : A → A → Type 0) → Respects 𝓜 Q → (f : ℕ → ℕ) (j j′ : ℕ) → j < n + m + o → j′ < n + m′ + o
-      → recordAt rs′ j′ ≡ edges f (recordAt rs j) → (j < n → j ≡ j′)
+  -- record j′ of the new table is record j of the old, but that f changed its edges, and that its block b may be another: no worth hangs on it
+  pub counterpart : (Q : A → A → Type 0) → Respects 𝓜 Q → (f : ℕ → ℕ) {b : ℕ} (j j′ : ℕ) → j < n + m + o → j′ < n + m′ + o
+      → recordAt rs′ j′ ≡ inBlock b (edges f (recordAt rs j)) → (j < n → j ≡ j′)
       → Each (λ x. Q (edgeWorth 𝓜 (worth 𝓜 rs) x) (edgeWorth 𝓜 (worth 𝓜 rs′) (f x))) (recordAt rs j)
       → Q (worth 𝓜 rs (suc j)) (worth 𝓜 rs′ (suc j′))
-  counterpart Q 𝓠 f j j′ h h′ same inputs q =
+  counterpart Q 𝓠 f {b} j j′ h h′ same inputs q =
       rw (formed-eq old 𝓜 j h, formed-eq new 𝓜 j′ h′, same)
-      (record-related 𝓜 Q 𝓠 _ _ (suc j) (suc j′) (recordAt rs j) (edges f (recordAt rs j)) refl (λ e. ap suc (number (decLt j n) e)) (q .0) (q .1) (q .2))
+      (record-related 𝓜 Q 𝓠 _ _ (suc j) (suc j′) (recordAt rs j) (inBlock b (edges f (recordAt rs j))) refl (λ e. ap suc (number (decLt j n) e)) (q .0) (q .1) (q .2))
     where
       number : Dec (j < n) → recordAt rs j .kind ≡ 1 → j ≡ j′
       number (yes p) e = inputs p
       number (no p) e = absurd (not-input old j (omega arith) h e)
 
   -- where f serves every edge to a lower node
-  pub counterpart-lower : (Q : A → A → Type 0) → Respects 𝓜 Q → (f : ℕ → ℕ) (j j′ : ℕ) → j < n + m + o → j′ < n + m′ + o
-      → recordAt rs′ j′ ≡ edges f (recordAt rs j) → (j < n → j ≡ j′)
+  pub counterpart-lower : (Q : A → A → Type 0) → Respects 𝓜 Q → (f : ℕ → ℕ) {b : ℕ} (j j′ : ℕ) → j < n + m + o → j′ < n + m′ + o
+      → recordAt rs′ j′ ≡ inBlock b (edges f (recordAt rs j)) → (j < n → j ≡ j′)
       → ((x : ℕ) → nodeOf x ≤ j → Q (edgeWorth 𝓜 (worth 𝓜 rs) x) (edgeWorth 𝓜 (worth 𝓜 rs′) (f x)))
       → Q (worth 𝓜 rs (suc j)) (worth 𝓜 rs′ (suc j′))
   counterpart-lower Q 𝓠 f j j′ h h′ same inputs q =

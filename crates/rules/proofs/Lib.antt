@@ -31,6 +31,7 @@ pub mod Voter  -- error voters keep
 -- steps
 pub mod Numbered  -- a rule is known by its number alone
 pub mod LowerStay  -- every rule but sweep leaves what stood below g
+pub mod Blocks  -- every rule keeps blocks, and gives its gate's to what it inserts
 pub mod AcceptedStep  -- a step is accepted where none of its four tests refuses
 pub mod Steps  -- what an accepted step keeps, whatever its rule
 pub mod Followed  -- what a probe shows after an accepted step

@@ -57,9 +57,10 @@ module _ {n m o g : ℕ} {rs : List Record} (is : GateOf n m o g rs) where
     alike : (s .e1 ≡ r .e1) × (s .e2 ≡ r .e2) × (s .e3 ≡ r .e3)
     unfolding shareForm
     alike =
-        let w = both (eqb (s .e1) (r .e1) && eqb (s .e2) (r .e2)) (eqb (s .e3) (r .e3)) form in
-        let u = both (eqb (s .e1) (r .e1)) (eqb (s .e2) (r .e2)) (w .0) in
-        (eqb-true _ _ (u .0), eqb-true _ _ (u .1), eqb-true _ _ (w .1))
+        let w = both (eqb (s .block) (r .block) && eqb (s .e1) (r .e1) && eqb (s .e2) (r .e2)) (eqb (s .e3) (r .e3)) form in
+        let u = both (eqb (s .block) (r .block) && eqb (s .e1) (r .e1)) (eqb (s .e2) (r .e2)) (w .0) in
+        let t = both (eqb (s .block) (r .block)) (eqb (s .e1) (r .e1)) (u .0) in
+        (eqb-true _ _ (t .1), eqb-true _ _ (u .1), eqb-true _ _ (w .1))
 
     too : GateOf n m o a rs
     too = record { formed = is .formed; from = from; upto = omega (arith, is .upto) }

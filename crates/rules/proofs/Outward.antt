@@ -27,13 +27,13 @@ module _ {n m o g : ℕ} {rs : List Record} (is : GateOf n m o g rs) where
 
   -- the inserted gates, and what g becomes
   abbrev p : Record
-  p = gate (r .e1) (r .e2) (h .e1)
+  p = gate (r .block) (r .e1) (r .e2) (h .e1)
 
   abbrev q : Record
-  q = gate (r .e1) (r .e2) (h .e2)
+  q = gate (r .block) (r .e1) (r .e2) (h .e2)
 
   abbrev last : Record
-  last = gate (plain g) (plain (g + 1)) (h .e3)
+  last = gate (r .block) (plain g) (plain (g + 1)) (h .e3)
 
   module _ (form : outwardForm n r ≡ true) where
     is-plain : plainGate n (r .e3) ≡ true

@@ -1,4 +1,5 @@
--- The first records of a table stand in another one too, raised: c places higher from node h on, and their edges alike. Each node is worth there what it is worth.
+-- The first records of a table stand in another one too, raised: c places higher from node h on, and their edges alike, in whatever blocks. Each node is worth
+-- there what it is worth.
 use Prim.Native.Nat.{ℕ, _+_, _-_, _≤_, _<_}
 use mathlib.Core.Path.{_≡_, sym, _∙_}
 use mathlib.Core.List.{List}
@@ -7,6 +8,7 @@ use Rattle.majority.specs.Edge.{nodeOf, raised, raise}
 use Rattle.majority.specs.Table.{recordAt, WellFormed}
 use Rattle.majority.specs.Node.{Meaning, edgeWorth, worth}
 use Rattle.majority.specs.Edit.{edges}
+use Rattle.rules.specs.Voter.{inBlock}
 use Rattle.majority.specs.declared.Record.{Record}
 use Rattle.majority.proofs.Nodes.{equals, edge-related, node-induction, node-zero}
 use Rattle.rules.proofs.KeptByNodes.{counterpart-lower}
@@ -14,7 +16,7 @@ use Rattle.rules.proofs.Raise.{raised-below, raised-cases, raised-next,
 
 module _ {n m m′ o : ℕ} {rs rs′ : List Record} (old : WellFormed n m o rs) (new : WellFormed n m′ o rs′) (h c last : ℕ)
     (from : n < h) (upto : last ≤ n + m + o) (room : last + c ≤ n + m′ + o)
-    (stands : (j : ℕ) → j < last → recordAt rs′ (raised (h - 1) c j) ≡ edges (raise h c) (recordAt rs j))
+    (block : ℕ → ℕ) (stands : (j : ℕ) → j < last → recordAt rs′ (raised (h - 1) c j) ≡ inBlock (block j) (edges (raise h c) (recordAt rs j)))
     {A : Type 0} (𝓜 : Meaning A) where
   -- an edge, by the node that it names
   of-node : (x : ℕ) → worth 𝓜 rs (nodeOf x) ≡ worth 𝓜 rs′ (raised h c (nodeOf x)) → edgeWorth 𝓜 (worth 𝓜 rs) x ≡ edgeWorth 𝓜 (worth 𝓜 rs′) (raise h c x)

@@ -1,4 +1,5 @@
--- What an accepted step keeps, whatever its rule, that its table stays within the gates' limit and the buffer, and that it leaves what stood below its gate.
+-- What an accepted step keeps, whatever its rule, of blocks too, that its table stays within the gates' limit and the buffer, and that it leaves what stood
+-- below its gate.
 use Prim.Native.Nat.{ℕ, suc, _+_, _*_, _≤_, _<_}
 use mathlib.Core.Path.{_≡_, refl, sym, ap, _∙_}
 use mathlib.Core.Bool.{Bool, true, false}
@@ -16,13 +17,12 @@ use Rattle.majority.specs.Check.{count}
 use Rattle.majority.specs.declared.Record.{Record}
 use Rattle.majority.proofs.Order.{order-counts}
 use Rattle.majority.proofs.Accepted.{Accepted, order-of}
-use Rattle.rules.specs.Kept.{movesOf, movesBy, NodesKept, Kept}
-use Rattle.rules.specs.Step.{ruleOf, isSweep, fieldsFit, hasForm, inserted, rewritten, step, deepens, deepensBy, voters, votersBy}
+use Rattle.rules.specs.Kept.{movesOf, movesBy, NodesKept, Kept, BlocksKept}
+use Rattle.rules.specs.Step.{ruleOf, isSweep, fieldsFit, hasForm, inserted, rewritten, step, deepens, deepensBy, voters, votersBy, insertedBy}
 use Rattle.rules.specs.declared.Step.{Step}
 use Rattle.rules.specs.declared.Rule.{Rule}
 use Rattle.rules.specs.declared.Rule.the-variants.{Exchange, Majority, Associativity, Outward, Inward, Inversion, Share, Sweep, Voter, Opposite}
 use Rattle.rules.proofs.KeptByNodes.{kept-by-nodes}
-use Rattle.rules.proofs.GateNodes.{GateOf}
 use Rattle.rules.proofs.Exchange.{exchange-kept}
 use Rattle.rules.proofs.MajorityShare.{majority-kept, opposite-kept, share-kept}
 use Rattle.rules.proofs.Associativity.{associativity-kept}
@@ -32,37 +32,31 @@ use Rattle.rules.proofs.Inversion.{inversion-kept}
 use Rattle.rules.proofs.Sweep.{left, left-fewer, sweep-kept, sweep-depth}
 use Rattle.rules.proofs.Voter.{voter-kept}
 use Rattle.rules.proofs.LowerStay.{lower-stays}
+use Rattle.rules.proofs.Blocks.{rule-blocks}
 use Rattle.rules.proofs.Numbered.{rule-number, number-of-sweep}
-use Rattle.rules.proofs.AcceptedStep.{Taken, Ruled, ruled, gate-field, share-field, voter-field}
-
--- how many gates a step of this rule on node g leaves, of m
-abbrev pub gatesAfter : ℕ → ℕ → List Record → Rule → ℕ → ℕ
-gatesAfter n m rs rule g = if isSweep rule then left n m rs else m + inserted n rule g
+use Rattle.rules.proofs.AcceptedStep.{gatesAfter, Taken, Ruled, ruled, gate-of, share-field, voter-field}
 
 -- by how much it may raise depth
 abbrev pub rises : Rule → ℕ
 rises rule = deepens rule + voters rule
 
 module _ {n m o : ℕ} {rs : List Record} (formed : WellFormed n m o rs) (g a b : ℕ) where
-  gate-of : (rule : Rule) → isSweep rule ≡ false → fieldsFit n m rule g a b ≡ true → GateOf n m o g rs
-  gate-of rule other fields = let w = gate-field n m g a b rule other fields in record { formed = formed; from = w .0; upto = w .1 }
-
   -- the rules, one after another
   by-rule : (rule : Rule) → fieldsFit n m rule g a b ≡ true → hasForm n rs rule g a b ≡ true
       → NodesKept (rises rule) n m (gatesAfter n m rs rule g) o (movesOf n rs rule g) rs (rewritten n rs rule g a b)
   unfolding hasForm rewritten
-  by-rule Exchange fields form = rw (add-zero m) (exchange-kept (gate-of Exchange refl fields) a)
-  by-rule Majority fields form = rw (add-zero m) (majority-kept (gate-of Majority refl fields) form)
-  by-rule Associativity fields form = associativity-kept (gate-of Associativity refl fields) form
-  by-rule Outward fields form = outward-kept (gate-of Outward refl fields) form
-  by-rule Inward fields form = inward-kept (gate-of Inward refl fields) form
-  by-rule Inversion fields form = rw (add-zero m) (inversion-kept (gate-of Inversion refl fields))
+  by-rule Exchange fields form = rw (add-zero m) (exchange-kept (gate-of formed g a b Exchange refl fields) a)
+  by-rule Majority fields form = rw (add-zero m) (majority-kept (gate-of formed g a b Majority refl fields) form)
+  by-rule Associativity fields form = associativity-kept (gate-of formed g a b Associativity refl fields) form
+  by-rule Outward fields form = outward-kept (gate-of formed g a b Outward refl fields) form
+  by-rule Inward fields form = inward-kept (gate-of formed g a b Inward refl fields) form
+  by-rule Inversion fields form = rw (add-zero m) (inversion-kept (gate-of formed g a b Inversion refl fields))
   by-rule Share fields form =
       let w = share-field n m g a b fields in
-      rw (add-zero m) (share-kept (gate-of Share refl fields) a (w .0) (w .1) form)
+      rw (add-zero m) (share-kept (gate-of formed g a b Share refl fields) a (w .0) (w .1) form)
   by-rule Sweep fields form = sweep-kept formed
-  by-rule Voter fields form = let w = voter-field n m g a b fields in voter-kept (gate-of Voter refl fields) a b (w .1) form
-  by-rule Opposite fields form = rw (add-zero m) (opposite-kept (gate-of Opposite refl fields) form)
+  by-rule Voter fields form = let w = voter-field n m g a b fields in voter-kept (gate-of formed g a b Voter refl fields) a b (w .1) form
+  by-rule Opposite fields form = rw (add-zero m) (opposite-kept (gate-of formed g a b Opposite refl fields) form)
 
 few-gates : {n m o : ℕ} {rs : List Record} → WellFormed n m o rs → (rule : Rule) (g : ℕ) → gatesAfter n m rs rule g ≤ m + inserted n rule g
 few-gates {n} {m} {rs = rs} formed rule g = go (isSweep rule)
@@ -93,6 +87,9 @@ module _ {n m o : ℕ} {rs : List Record} (formed : WellFormed n m o rs) {bytes 
   taken-lower : isSweep rule ≡ false → (j : ℕ) → suc j < g → recordAt rs′ j ≡ recordAt rs j
   taken-lower other j h = rw (taken .result) (lower-stays (gate-of formed g a b rule other (taken .fields)) j h rule other a b)
 
+  taken-blocks : BlocksKept n m (count 2 rs′) o g (inserted n rule g) (movesOf n rs rule g) rs rs′
+  taken-blocks = rw taken-count (rw (taken .result) (rule-blocks formed g a b rule (taken .fields) (taken .form)))
+
   taken-gates : count 2 rs′ ≤ 1024
   taken-gates = omega (arith, taken-count, few-gates formed rule g, taken .few)
 
@@ -109,6 +106,10 @@ module _ {n m o : ℕ} {rs : List Record} (formed : WellFormed n m o rs) (bytes 
 
   pub step-kept : Kept (deepensBy s + votersBy s) n m (count 2 rs′) o rs rs′
   step-kept = kept-by-nodes formed step-nodes
+
+  -- and at the blocks
+  pub step-blocks : BlocksKept n m (count 2 rs′) o (s .gate) (insertedBy n s) (movesBy n rs s) rs rs′
+  step-blocks = rw (by .known) (taken-blocks formed (by .taken))
 
   -- a sweep, rule 8, keeps depth itself
   pub sweep-step-depth : s .rule ≡ 8 → depth n (count 2 rs′) o rs′ ≡ depth n m o rs

@@ -131,7 +131,7 @@ module _ {n m o g : ℕ} {rs : List Record} (is : GateOf n m o g rs) (a b : ℕ)
   thrice = simp length-append (omega (arith, copied-length is one, copied-length is two, copied-length is three))
 
   -- every new gate is in one of them
-  by-copy : (P : ℕ → Type 0) → ((i : ℕ) → i < k → P (0 + i)) → ((i : ℕ) → i < k → P (k + i)) → ((i : ℕ) → i < k → P (2 * k + i)) → (t : ℕ) → t < length news → P t
+  pub by-copy : (P : ℕ → Type 0) → ((i : ℕ) → i < k → P (0 + i)) → ((i : ℕ) → i < k → P (k + i)) → ((i : ℕ) → i < k → P (2 * k + i)) → (t : ℕ) → t < length news → P t
   by-copy P q1 q2 q3 t h = go (decLt t k) (decLt t (2 * k))
     where
       go : Dec (t < k) → Dec (t < 2 * k) → P t

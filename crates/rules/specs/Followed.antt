@@ -1,4 +1,4 @@
--- Probes (SPEC 5.6): a gate of a first table is followed through steps. It may be swept away; while it is present, it has its first value or the inverse of it.
+-- Probes (SPEC 5.6): a gate of a first table is followed through steps. It may be swept away; while it is present, it has its first value or the inverse of it, and its first block.
 use Prim.Native.Nat.{ℕ, _+_, _%_, _≤_, _<_}
 use mathlib.Core.Path.{_≡_}
 use mathlib.Core.Bool.{Bool, _&&_}
@@ -8,7 +8,7 @@ use Rattle.majority.specs.If.{if_then_else_}
 use Rattle.majority.specs.Edge.{nodeOf, isInverted}
 use Rattle.majority.specs.Node.{edgeWorth}
 use Rattle.majority.specs.Value.{values, value}
-use Rattle.rules.specs.Voter.{edgeTo}
+use Rattle.rules.specs.Voter.{edgeTo, blockOf}
 use Rattle.rules.specs.Kept.{Moves, movesBy, turned}
 use Rattle.rules.specs.declared.Step.{Step}
 use Rattle.majority.specs.declared.Record.{Record}
@@ -56,6 +56,8 @@ pub record Present (n m : ℕ) (first rs : List Record) (g k named : ℕ) : Type
   pub same : (a : ℕ) → value a rs k ≡ turned (odd named) (value a first g)
   -- and so the edge has its first value
   pub edge : (a : ℕ) → edgeWorth (values a) (value a rs) (edgeOf (stands k named)) ≡ value a first g
+  -- its block is its first block
+  pub block : blockOf rs k ≡ blockOf first g
 
 -- what the probe p of node g of the table `first` shows in the table rs, and the edge e that is kept for it
 pub record Shows (n m : ℕ) (first rs : List Record) (g : ℕ) (p : Probe) (e : ℕ) : Type 0 where

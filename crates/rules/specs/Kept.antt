@@ -1,4 +1,4 @@
--- What rewriting keeps (SPEC 5.2, 5.3 and 5.6): of each node, and so of the outputs and of depth.
+-- What rewriting keeps (SPEC 5.2, 5.3 and 5.6): of each node, and so of the outputs and of depth; and of its block.
 use Prim.Native.Nat.{ℕ, suc, _+_, _≤_, _<_}
 use mathlib.Core.Path.{_≡_}
 use mathlib.Core.Bool.{Bool, true, false, not}
@@ -10,6 +10,7 @@ use Rattle.majority.specs.Table.{WellFormed}
 use Rattle.majority.specs.Value.{value, outputValue}
 use Rattle.majority.specs.Level.{level, depth}
 use Rattle.rules.specs.Sweep.{stays, kept}
+use Rattle.rules.specs.Voter.{blockOf}
 use Rattle.rules.specs.Step.{inserted, ruleOf}
 use Rattle.rules.specs.declared.Step.{Step}
 use Rattle.rules.specs.declared.Rule.{Rule}
@@ -81,3 +82,10 @@ pub record Kept (δ n m m′ o : ℕ) (rs rs′ : List Record) : Type 0 where
   pub formed : WellFormed n m′ o rs′
   pub outputs : (a j : ℕ) → j < o → outputValue a n m′ rs′ j ≡ outputValue a n m rs j
   pub deep : depth n m′ o rs′ ≤ depth n m o rs + δ
+
+-- from the table rs of m gates to rs′ of m′ gates, by a step on node g that inserts c gates
+pub record BlocksKept (n m m′ o g c : ℕ) (moves : Moves) (rs rs′ : List Record) : Type 0 where
+  -- a record that stays keeps its block
+  pub stayed : (k : ℕ) → 0 < k → k ≤ n + m + o → moves .stays k ≡ true → blockOf rs′ (moves .place k) ≡ blockOf rs k
+  -- the inserted nodes are gates, and have g's
+  pub new : (k : ℕ) → g ≤ k → k < g + c → (n < k) × (k ≤ n + m′) × (blockOf rs′ k ≡ blockOf rs g)

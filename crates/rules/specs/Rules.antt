@@ -1,4 +1,5 @@
--- Rules 1 to 7 and 10 (SPEC 5.3), each as the form that it asks for and the table that it makes. g is the node number of a gate.
+-- Rules 1 to 7 and 10 (SPEC 5.3), each as the form that it asks for and the table that it makes. g is the node number of a gate. What it becomes and
+-- what is inserted before it have its block.
 use Prim.Native.Nat.{ℕ, _+_, _*_}
 use mathlib.Core.Bool.{Bool, not, _&&_}
 use mathlib.Core.List.{List, [], _∷_}
@@ -15,7 +16,7 @@ plain k = 2 * k
 
 -- 1. Exchange. a = 1: g's first and second edges; a = 2: first and third
 abbrev pub exchanged : ℕ → Record → Record
-exchanged a r = if eqb a 1 then gate (r .e2) (r .e1) (r .e3) else gate (r .e3) (r .e2) (r .e1)
+exchanged a r = if eqb a 1 then gate (r .block) (r .e2) (r .e1) (r .e3) else gate (r .block) (r .e3) (r .e2) (r .e1)
 
 unfoldable pub exchange : ℕ → ℕ → List Record → List Record
 exchange a g rs = become g (exchanged a (nodeRecord rs g)) rs
@@ -43,7 +44,7 @@ unfoldable pub associativity : ℕ → List Record → List Record
 associativity g rs =
     let r = nodeRecord rs g in
     let h = named rs (r .e3) in
-    become (g + 1) (gate (h .e3) (r .e2) (plain g)) (insert g (gate (h .e1) (r .e2) (r .e1) ∷ []) rs)
+    become (g + 1) (gate (r .block) (h .e3) (r .e2) (plain g)) (insert g (gate (r .block) (h .e1) (r .e2) (r .e1) ∷ []) rs)
 
 -- 4. Distributivity outward. g = (x, y, h), h an uninverted gate (u, v, z): insert p = (x, y, u), then q = (x, y, v); g becomes (p, q, z)
 unfoldable pub outwardForm : ℕ → Record → Bool
@@ -53,7 +54,8 @@ unfoldable pub outward : ℕ → List Record → List Record
 outward g rs =
     let r = nodeRecord rs g in
     let h = named rs (r .e3) in
-    become (g + 2) (gate (plain g) (plain (g + 1)) (h .e3)) (insert g (gate (r .e1) (r .e2) (h .e1) ∷ gate (r .e1) (r .e2) (h .e2) ∷ []) rs)
+    become (g + 2) (gate (r .block) (plain g) (plain (g + 1)) (h .e3))
+    (insert g (gate (r .block) (r .e1) (r .e2) (h .e1) ∷ gate (r .block) (r .e1) (r .e2) (h .e2) ∷ []) rs)
 
 -- 5. Distributivity inward. g = (p, q, z), p = (x, y, u) and q = (x, y, v) uninverted gates, perhaps the same: insert (u, v, z); g becomes (x, y, new)
 unfoldable pub inwardForm : ℕ → Record → Record → Record → Bool
@@ -64,15 +66,15 @@ inward g rs =
     let r = nodeRecord rs g in
     let p = named rs (r .e1) in
     let q = named rs (r .e2) in
-    become (g + 1) (gate (p .e1) (p .e2) (plain g)) (insert g (gate (p .e3) (q .e3) (r .e3) ∷ []) rs)
+    become (g + 1) (gate (r .block) (p .e1) (p .e2) (plain g)) (insert g (gate (r .block) (p .e3) (q .e3) (r .e3) ∷ []) rs)
 
 -- 6. Inversion. g's three edges and every edge naming g are inverted
 unfoldable pub inversion : ℕ → List Record → List Record
 inversion g rs = become g (edges flip (nodeRecord rs g)) (redirectAll g (flip (plain g)) rs)
 
--- 7. Share. a is a gate below g with the same three edges in the same order: redirect g to a
+-- 7. Share. a is a gate below g of the same block, with the same three edges in the same order: redirect g to a
 unfoldable pub shareForm : Record → Record → Bool
-shareForm r s = eqb (s .e1) (r .e1) && eqb (s .e2) (r .e2) && eqb (s .e3) (r .e3)
+shareForm r s = eqb (s .block) (r .block) && eqb (s .e1) (r .e1) && eqb (s .e2) (r .e2) && eqb (s .e3) (r .e3)
 
 unfoldable pub share : ℕ → ℕ → List Record → List Record
 share a g rs = redirectAll g (plain a) rs

@@ -193,3 +193,7 @@ deepensBy s = ruledBy deepens (ruleOf (s .rule))
 
 abbrev pub votersBy : Step → ℕ
 votersBy s = ruledBy voters (ruleOf (s .rule))
+
+-- how many gates a step inserts before its gate, among n inputs
+abbrev pub insertedBy : ℕ → Step → ℕ
+insertedBy n s = ruledBy (λ rule. inserted n rule (s .gate)) (ruleOf (s .rule))

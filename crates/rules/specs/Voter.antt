@@ -6,7 +6,7 @@ use lib.ListN.{take, drop}
 use lib.Dec.{leb, eqb}
 use Rattle.majority.specs.If.{if_then_else_}
 use Rattle.majority.specs.Edge.{flip, redirect, raise}
-use Rattle.majority.specs.Table.{gate}
+use Rattle.majority.specs.Table.{recordOf, gate}
 use Rattle.majority.specs.Level.{level}
 use Rattle.majority.specs.Seek.{firstFrom}
 use Rattle.majority.specs.Edit.{edges, nodeRecord, redirectAll, insert, become}
@@ -52,9 +52,18 @@ pub record Copy : Type 0 where
 abbrev pub own : ℕ → ℕ → ℕ → ℕ → ℕ
 own n g before x = raise (suc n) (g + before - suc n) x
 
--- the gates of a copy: edges that name the node are replaced, their polarity carried on, and then read in the copy's own numbers
+-- the record in the block b
+abbrev pub inBlock : ℕ → Record → Record
+inBlock b r = recordOf (r .kind) b (r .e1) (r .e2) (r .e3)
+
+-- the block of node g
+abbrev pub blockOf : List Record → ℕ → ℕ
+blockOf rs g = nodeRecord rs g .block
+
+-- the gates of a copy: edges that name the node are replaced, their polarity carried on, and then read in the copy's own numbers. All have g's block
 unfoldable pub copied : ℕ → ℕ → Copy → List Record → List Record
-copied n g copy rs = map (edges (own n g (copy .before))) (take (g - n) (drop n (redirectAll (copy .node) (copy .edge) rs)))
+copied n g copy rs =
+    map (λ r. inBlock (blockOf rs g) (edges (own n g (copy .before)) r)) (take (g - n) (drop n (redirectAll (copy .node) (copy .edge) rs)))
 
 -- its root: what stands there for the plain edge to g
 abbrev pub root : ℕ → ℕ → Copy → ℕ
@@ -79,7 +88,7 @@ module _ (n g a b : ℕ) (rs : List Record) where
 
   -- the majority of the three roots
   abbrev pub votes : Record
-  votes = gate (root n g firstCopy) (root n g secondCopy) (root n g thirdCopy)
+  votes = gate (blockOf rs g) (root n g firstCopy) (root n g secondCopy) (root n g thirdCopy)
 
   -- the copies are inserted before g, and g becomes that majority
   unfoldable pub voter : List Record

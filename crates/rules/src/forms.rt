@@ -44,7 +44,7 @@ pub fn inward_form(inputs: usize, r: Record, p: Record, q: Record) -> bool
 pub fn share_form(r: Record, other: Record) -> bool
     ensures { λ b. ⌜ b ≡ shareForm r other ⌝ }
 {
-    (other.e1 == r.e1) & (other.e2 == r.e2) & (other.e3 == r.e3)
+    (other.block == r.block) & (other.e1 == r.e1) & (other.e2 == r.e2) & (other.e3 == r.e3)
 }
 
 pub fn opposite_form(r: Record) -> bool

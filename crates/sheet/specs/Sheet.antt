@@ -3,9 +3,9 @@ use Prim.Native.Nat.{ℕ, _*_, _/_}
 use mathlib.Core.List.{List, [], _∷_, _++_, map}
 use lib.ListN.{length, replicate}
 use Rattle.refusals.specs.Why.{Why, why}
-use Rattle.majority.specs.Table.{input, gate, output}
+use Rattle.majority.specs.Table.{recordOf, input, gate as gateIn, output}
 use Rattle.refusals.specs.Reply.{Reply, accepted, refused}
-use Rattle.translation.specs.Rm3.{operation}
+use Rattle.translation.specs.Rm3.{operation as operationIn}
 use Rattle.majority.specs.declared.Record.{Record}
 use Rattle.majority.specs.declared.Counts.{Counts}
 use Rattle.tables.specs.Bytes.{encode, tableOf}
@@ -87,6 +87,13 @@ upTo3 = 0 ∷ 1 ∷ 2 ∷ 3 ∷ []
 abbrev pub upTo7 : List ℕ
 upTo7 = 0 ∷ 1 ∷ 2 ∷ 3 ∷ 4 ∷ 5 ∷ 6 ∷ 7 ∷ []
 
+-- the tables of the sheet are of block 0, and so are their operations
+abbrev pub gate : ℕ → ℕ → ℕ → Record
+gate x y z = gateIn 0 x y z
+
+abbrev pub operation : ℕ → ℕ → ℕ → Record
+operation x y z = operationIn 0 x y z
+
 abbrev pub P1 : List Record
 P1 = input ∷ input ∷ gate 0 2 4 ∷ output 6 ∷ []
 
@@ -108,9 +115,9 @@ P6 = input ∷ input ∷ input ∷ input ∷ gate 6 4 8 ∷ gate 2 4 10 ∷ outp
 abbrev pub P7 : List Record
 P7 = input ∷ input ∷ input ∷ input ∷ input ∷ gate 6 8 10 ∷ gate 2 4 12 ∷ output 14 ∷ []
 
--- a step of a rule on a gate; rule 8 is sweep
+-- a step of a rule, whose number is a byte here, on a gate; rule 8 is sweep
 abbrev pub on : ℕ → ℕ → Record
-on rule g = record { kind = rule; e1 = g; e2 = 0; e3 = 0 }
+on rule g = recordOf rule 0 g 0 0
 
 abbrev pub swept : Record
 swept = on 8 0
@@ -121,7 +128,7 @@ P8 = input ∷ input ∷ input ∷ gate 2 4 6 ∷ gate 2 4 7 ∷ gate 9 10 6 ∷
 
 -- a voter step on gate g, with the nodes a and b
 abbrev pub voting : ℕ → ℕ → ℕ → Record
-voting g a b = record { kind = 9; e1 = g; e2 = a; e3 = b }
+voting g a b = recordOf 9 0 g a b
 
 -- two gates, a gate that reads both inverted, and one above it
 abbrev pub P12 : List Record

@@ -14,16 +14,18 @@ use text::Line;
 fn input() -> Record {
     Record {
         kind: majority::INPUT,
+        block: 0,
         e1: 0,
         e2: 0,
         e3: 0,
     }
 }
 
-// The gate M(x1, 0, edge).
+// The gate M(x1, 0, edge), of block 0.
 fn gate(edge: u16) -> Record {
     Record {
         kind: majority::GATE,
+        block: 0,
         e1: 2,
         e2: 0,
         e3: edge,
@@ -34,6 +36,7 @@ fn gate(edge: u16) -> Record {
 fn output() -> Record {
     Record {
         kind: majority::OUTPUT,
+        block: 0,
         e1: 0,
         e2: 0,
         e3: 0,

@@ -1,11 +1,11 @@
 -- The records that bytes hold, one by one.
-use Prim.Native.Nat.{ℕ, zero, suc, _+_, _*_, _/_, _≤_, _<_}
+use Prim.Native.Nat.{ℕ, zero, suc, _+_, _*_, _/_, _%_, _≤_, _<_}
 use mathlib.Core.Path.{_≡_, refl, sym, ap}
 use mathlib.Core.List.{List}
 use native.Mathlib.Omega.{arith}
 use native.Mathlib.Decide.{decLt}
 use borrow.Author.Tests.{lt-ltb, le-ltb}
-use lib.ListN.{length, take, List·getD-eq-default}
+use lib.ListN.{length, getD, take, List·getD-eq-default}
 use lib.Seq.{getD-take}
 use Rattle.majority.specs.Table.{recordOf, blank, recordAt}
 use Rattle.tables.specs.Field.{fieldAt}
@@ -32,7 +32,7 @@ module _ (xs : List ℕ) (used : ℕ) where
   unfolding decode
   decode-take zero i h = refl
   decode-take (suc k) i h =
-      rw (field-take (4 * i) (omega arith), field-take (4 * i + 1) (omega arith), field-take (4 * i + 2) (omega arith), field-take (4 * i + 3) (omega arith), decode-take k (suc i) (omega arith))
+      rw (getD-take used xs (8 * i) 0 (omega arith), getD-take used xs (8 * i + 1) 0 (omega arith), field-take (4 * i + 1) (omega arith), field-take (4 * i + 2) (omega arith), field-take (4 * i + 3) (omega arith), decode-take k (suc i) (omega arith))
 
   pub table-take : (n : ℕ) → 8 * n ≤ used → tableOf (take used xs) n ≡ tableOf xs n
   table-take n h = decode-take n 0 (omega arith)
@@ -47,11 +47,17 @@ module _ (xs : List ℕ) (n : ℕ) where
   pub table-past : (i : ℕ) → n ≤ i → recordAt (tableOf xs n) i ≡ blank
   table-past i h = List·getD-eq-default (tableOf xs n) blank (let e = length-table in omega arith)
 
--- a record of the bytes, field by field
-pub read-fields : (xs : List ℕ) (i : ℕ) → recordOf (fieldOf xs i 0) (fieldOf xs i 1) (fieldOf xs i 2) (fieldOf xs i 3) ≡ recordAt (recordsOf xs) i
-unfolding fieldOf
-read-fields xs i = go (decLt i (length xs / 8))
+-- a record of the bytes, field by field: the low byte of the first is the kind, the high byte the block
+pub read-fields : (xs : List ℕ) (i : ℕ) → getD xs (8 * i) 0 < 256
+    → recordOf (fieldOf xs i 0 % 256) (fieldOf xs i 0 / 256) (fieldOf xs i 1) (fieldOf xs i 2) (fieldOf xs i 3) ≡ recordAt (recordsOf xs) i
+unfolding fieldOf fieldAt
+read-fields xs i byte = go (decLt i (length xs / 8))
   where
-    go : Dec (i < length xs / 8) → recordOf (fieldOf xs i 0) (fieldOf xs i 1) (fieldOf xs i 2) (fieldOf xs i 3) ≡ recordAt (recordsOf xs) i
-    go (yes h) = let e : 4 * i + 0 ≡ 4 * i = omega arith in rw (lt-ltb i (length xs / 8) h, e) (sym (table-at xs (length xs / 8) i h))
+    go : Dec (i < length xs / 8)
+        → recordOf (fieldOf xs i 0 % 256) (fieldOf xs i 0 / 256) (fieldOf xs i 1) (fieldOf xs i 2) (fieldOf xs i 3) ≡ recordAt (recordsOf xs) i
+    go (yes h) =
+        let e : 2 * (4 * i + 0) ≡ 8 * i = omega arith in
+        let low : (getD xs (8 * i) 0 + 256 * getD xs (8 * i + 1) 0) % 256 ≡ getD xs (8 * i) 0 = omega arith in
+        let high : (getD xs (8 * i) 0 + 256 * getD xs (8 * i + 1) 0) / 256 ≡ getD xs (8 * i + 1) 0 = omega arith in
+        rw (lt-ltb i (length xs / 8) h, e, low, high) (sym (table-at xs (length xs / 8) i h))
     go (no h) = rw (le-ltb i (length xs / 8) (omega arith)) (sym (table-past xs (length xs / 8) i (omega arith)))

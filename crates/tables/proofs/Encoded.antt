@@ -41,11 +41,13 @@ module _ (xs : List ℕ) (bytes : Bytes xs) where
 
   drop-record : (i : ℕ) → 8 * i + 7 < length xs → drop (8 * i) xs ≡ recordBytes (recordIn xs i) (drop (8 * (i + 1)) xs)
   drop-record i h =
-      let e0 : 8 * i ≡ 2 * (4 * i) = omega arith in
+      let s0 : suc (8 * i) ≡ 8 * i + 1 = omega arith in
+      let s1 : suc (8 * i + 1) ≡ 2 * (4 * i + 1) = omega arith in
       let e1 : 4 * i + 1 + 1 ≡ 4 * i + 2 = omega arith in
       let e2 : 4 * i + 2 + 1 ≡ 4 * i + 3 = omega arith in
       let e3 : 2 * (4 * i + 3 + 1) ≡ 8 * (i + 1) = omega arith in
-      rw (e0, drop-field (4 * i) (omega arith), drop-field (4 * i + 1) (omega arith), e1, drop-field (4 * i + 2) (omega arith), e2, drop-field (4 * i + 3) (omega arith), e3)
+      drop-cons xs (8 * i) 0 (omega arith)
+      ∙ rw (s0, drop-cons xs (8 * i + 1) 0 (omega arith), s1, drop-field (4 * i + 1) (omega arith), e1, drop-field (4 * i + 2) (omega arith), e2, drop-field (4 * i + 3) (omega arith), e3)
 
   drop-decode : (k i : ℕ) → 8 * (i + k) ≤ length xs → drop (8 * i) xs ≡ encode (decode xs i k) ++ drop (8 * (i + k)) xs
   unfolding encode decode
@@ -89,33 +91,33 @@ length-encode (r ∷ t) = omega (arith, length-encode t)
 abbrev eight : Record → List ℕ
 eight r = recordBytes r []
 
--- a field behind the first record
+-- a byte and a field behind the first record
+byte-behind : (r : Record) (ys : List ℕ) (k j : ℕ) → k ≡ 8 + j → getD (recordBytes r ys) k 0 ≡ getD ys j 0
+byte-behind r ys k j e = rw e (getD-append-add (eight r) ys j 0)
+
 field-behind : (r : Record) (ys : List ℕ) (k : ℕ) → fieldAt (recordBytes r ys) (4 + k) ≡ fieldAt ys k
 unfolding fieldAt
 field-behind r ys k =
-    let low : 2 * (4 + k) ≡ 8 + 2 * k = omega arith in
-    let high : 2 * (4 + k) + 1 ≡ 8 + (2 * k + 1) = omega arith in
-    ap₂ joined
-    (ap (λ (i : ℕ). getD (recordBytes r ys) i 0) low ∙ getD-append-add (eight r) ys (2 * k) 0)
-    (ap (λ (i : ℕ). getD (recordBytes r ys) i 0) high ∙ getD-append-add (eight r) ys (2 * k + 1) 0)
+    ap₂ joined (byte-behind r ys (2 * (4 + k)) (2 * k) (omega arith)) (byte-behind r ys (2 * (4 + k) + 1) (2 * k + 1) (omega arith))
 
 whole : (v : ℕ) → joined (v % 256) (v / 256) ≡ v
 whole v = omega arith
 
 first-record : (r : Record) (ys : List ℕ) → recordIn (recordBytes r ys) 0 ≡ r
 unfolding fieldAt
-first-record r ys = λ d. record { kind = whole (r .kind) d; e1 = whole (r .e1) d; e2 = whole (r .e2) d; e3 = whole (r .e3) d }
+first-record r ys = λ d. record { kind = r .kind; block = r .block; e1 = whole (r .e1) d; e2 = whole (r .e2) d; e3 = whole (r .e3) d }
 
 later-record : (r : Record) (ys : List ℕ) (j : ℕ) → recordIn (recordBytes r ys) (suc j) ≡ recordIn ys j
 later-record r ys j =
     let at : (d : ℕ) → fieldAt (recordBytes r ys) (4 * suc j + d) ≡ fieldAt ys (4 * j + d) =
     λ d. let e : 4 * suc j + d ≡ 4 + (4 * j + d) = omega arith in ap (fieldAt (recordBytes r ys)) e ∙ field-behind r ys (4 * j + d)
     in
-    let p0 : fieldAt (recordBytes r ys) (4 * suc j) ≡ fieldAt ys (4 * j) = let e : 4 * suc j ≡ 4 + 4 * j = omega arith in ap (fieldAt (recordBytes r ys)) e ∙ field-behind r ys (4 * j) in
+    let k = byte-behind r ys (8 * suc j) (8 * j) (omega arith) in
+    let b = byte-behind r ys (8 * suc j + 1) (8 * j + 1) (omega arith) in
     let p1 = at 1 in
     let p2 = at 2 in
     let p3 = at 3 in
-    λ d. record { kind = p0 d; e1 = p1 d; e2 = p2 d; e3 = p3 d }
+    λ d. record { kind = k d; block = b d; e1 = p1 d; e2 = p2 d; e3 = p3 d }
 
 pub encoded-at : (t : List Record) (rest : List ℕ) (j : ℕ) → j < length t → recordIn (encode t ++ rest) j ≡ recordAt t j
 unfolding encode

@@ -1,20 +1,21 @@
--- Records in bytes (SPEC 2.1): four fields of 16 bits each, and no header.
+-- Records in bytes (SPEC 2.1): a byte for the kind, a byte for the block, three fields of 16 bits each, and no header.
 use Prim.Native.Nat.{ℕ, zero, suc, _+_, _*_, _/_, _%_}
 use mathlib.Core.List.{List, [], _∷_, _++_}
-use lib.ListN.{length, drop}
+use lib.ListN.{length, getD, drop}
 use lib.Dec.{ltb}
 use Rattle.majority.specs.If.{if_then_else_}
 use Rattle.majority.specs.Table.{recordOf}
 use Rattle.majority.specs.declared.Record.{Record}
-use Rattle.tables.specs.Field.{fieldAt, putField}
+use Rattle.tables.specs.Field.{fieldAt, putBytes, putField}
 
 -- record i of the bytes xs
 abbrev pub recordIn : List ℕ → ℕ → Record
-recordIn xs i = recordOf (fieldAt xs (4 * i)) (fieldAt xs (4 * i + 1)) (fieldAt xs (4 * i + 2)) (fieldAt xs (4 * i + 3))
+recordIn xs i =
+    recordOf (getD xs (8 * i) 0) (getD xs (8 * i + 1) 0) (fieldAt xs (4 * i + 1)) (fieldAt xs (4 * i + 2)) (fieldAt xs (4 * i + 3))
 
 -- the same with the kind k in place of its own
 abbrev pub recordAs : List ℕ → ℕ → ℕ → Record
-recordAs xs i k = recordOf k (recordIn xs i .e1) (recordIn xs i .e2) (recordIn xs i .e3)
+recordAs xs i k = recordOf k (recordIn xs i .block) (recordIn xs i .e1) (recordIn xs i .e2) (recordIn xs i .e3)
 
 -- k records of the bytes xs, from record i on
 unfoldable pub decode : List ℕ → ℕ → ℕ → List Record
@@ -38,7 +39,7 @@ abbrev pub fieldBytes : ℕ → List ℕ → List ℕ
 fieldBytes v rest = v % 256 ∷ v / 256 ∷ rest
 
 abbrev pub recordBytes : Record → List ℕ → List ℕ
-recordBytes r rest = fieldBytes (r .kind) (fieldBytes (r .e1) (fieldBytes (r .e2) (fieldBytes (r .e3) rest)))
+recordBytes r rest = r .kind ∷ r .block ∷ fieldBytes (r .e1) (fieldBytes (r .e2) (fieldBytes (r .e3) rest))
 
 -- the bytes of a table
 unfoldable pub encode : List Record → List ℕ
@@ -52,7 +53,7 @@ holding t xs = encode t ++ drop (8 * length t) xs
 -- the bytes xs with r as their record i
 unfoldable pub putFields : List ℕ → ℕ → Record → List ℕ
 putFields xs i r =
-    putField (putField (putField (putField xs (4 * i) (r .kind)) (4 * i + 1) (r .e1)) (4 * i + 2) (r .e2)) (4 * i + 3) (r .e3)
+    putField (putField (putField (putBytes xs (4 * i) (r .kind) (r .block)) (4 * i + 1) (r .e1)) (4 * i + 2) (r .e2)) (4 * i + 3) (r .e3)
 
 -- the same where xs has room for it, else xs
 unfoldable pub putRecord : List ℕ → ℕ → Record → List ℕ

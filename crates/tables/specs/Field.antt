@@ -11,6 +11,10 @@ joined low high = low + 256 * high
 unfoldable pub fieldAt : List ℕ → ℕ → ℕ
 fieldAt xs k = joined (getD xs (2 * k) 0) (getD xs (2 * k + 1) 0)
 
+-- the bytes xs with `low` and `high` as the bytes of their field k
+unfoldable pub putBytes : List ℕ → ℕ → ℕ → ℕ → List ℕ
+putBytes xs k low high = set (set xs (2 * k) low) (2 * k + 1) high
+
 -- the bytes xs with v as their field k
-unfoldable pub putField : List ℕ → ℕ → ℕ → List ℕ
-putField xs k v = set (set xs (2 * k) (v % 256)) (2 * k + 1) (v / 256)
+abbrev pub putField : List ℕ → ℕ → ℕ → List ℕ
+putField xs k v = putBytes xs k (v % 256) (v / 256)

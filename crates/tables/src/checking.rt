@@ -1,6 +1,5 @@
 // The check: one pass over the kinds, one over the fields.
 use crate::Checked;
-use crate::fields::get;
 use crate::records::record_as;
 use crate::records::record_at;
 use majority::Counts;
@@ -26,13 +25,13 @@ ghost use Rattle.tables.specs.Claimed.{otherCounts, checkCounted};
 ghost use Rattle.tables.specs.inner.Under.{claimedOf, checkUnder, checkUsed};
 
 // The first record from `from` on, of n records, that is of another kind; n where there is none.
-fn run_end(s: &[u8], from: usize, n: usize, kind: u16) -> usize
+fn run_end(s: &[u8], from: usize, n: usize, kind: u8) -> usize
     requires { ⌜ (8 * n ≤ length (now s)) × (from ≤ n) ⌝ }
     ensures { λ r. ⌜ r ≡ runEnd (tableOf (now (s .entry)) n) n kind from ⌝ }
 {
     let mut i = from;
     while i < n {
-        if get(s, 4 * i) != kind {
+        if s[8 * i] != kind {
             return i;
         }
         i += 1;
@@ -52,12 +51,12 @@ fn not_zero(r: Record) -> bool
     ensures { λ b. ⌜ b ≡ notZero r ⌝ }
 {
     if r.kind == INPUT {
-        return (r.e1 != 0) | (r.e2 != 0) | (r.e3 != 0);
+        return (r.block != 0) | (r.e1 != 0) | (r.e2 != 0) | (r.e3 != 0);
     }
     if r.kind == GATE {
         return false;
     }
-    (r.e2 != 0) | (r.e3 != 0)
+    (r.block != 0) | (r.e2 != 0) | (r.e3 != 0)
 }
 
 // The edge names a node past last.
@@ -126,7 +125,7 @@ fn fault_of(last: usize, i: usize, r: Record) -> Refusal
 }
 
 // The first record from `from` on, up to `to`, that has a fault as one of this kind; `to` where there is none.
-fn run_fault(s: &[u8], from: usize, to: usize, kind: u16, last: usize) -> usize
+fn run_fault(s: &[u8], from: usize, to: usize, kind: u8, last: usize) -> usize
     requires { ⌜ (8 * to ≤ length (now s)) × (from ≤ to) × (2 * last + 1 ≤ 18446744073709551615) ⌝ }
     ensures { λ r. ⌜ r ≡ firstFrom (faultyAs (now (s .entry)) kind last) from (to - from) ⌝ }
 {

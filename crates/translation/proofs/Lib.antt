@@ -10,6 +10,7 @@ pub mod Rm3Formed  -- the translation is a well-formed RM3 table
 -- what is kept
 pub mod Rm3Simulation  -- an operand's worth is related to its node's
 pub mod Rm3Laws  -- each output's value, and depth within its bound
+pub mod Rm3Blocks  -- whose block each record has
 -- sizes
 pub mod Totals  -- the sum over records
 pub mod Rm3Count  -- how many records each part adds

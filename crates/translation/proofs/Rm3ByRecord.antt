@@ -24,7 +24,7 @@ module _ {n m o : ℕ} {rs : List Record} (formed : WellFormed n m o rs) (operan
   nodes-end j e = ap (nodes3 operands ts) (ap (λ (k : ℕ). drop k (take (n + m) rs)) (e ∙ sym (front formed)) ∙ drop-length (take (n + m) rs))
 
   pub output-turn : (os : List Record) (j : ℕ) → j < n + m + o
-      → let p = place false operands (recordAt rs j .e1) ts in
+      → let p = place 0 false operands (recordAt rs j .e1) ts in
       outputs3 operands ts os (drop j rs) ≡ outputs3 operands (p .table) (os ++ output (p .operand) ∷ []) (drop (suc j) rs)
   output-turn os j h = rw (drop-cons rs j blank (omega (arith, formed .whole)))
 

@@ -18,12 +18,12 @@ use Rattle.translation.proofs.Begins.{length-more}
 use Rattle.translation.proofs.Rm3Gate.{middleOf}
 use Rattle.translation.proofs.Rm3Nodes.{named}
 
-pub place-length : (isMiddle : Bool) (operands : List ℕ) (e : ℕ) (ts : List Record) → length (place isMiddle operands e ts .table) ≡ length ts + helperCount isMiddle (classOf e)
+pub place-length : (b : ℕ) (isMiddle : Bool) (operands : List ℕ) (e : ℕ) (ts : List Record) → length (place b isMiddle operands e ts .table) ≡ length ts + helperCount isMiddle (classOf e)
 unfolding place
-place-length isMiddle operands e ts = go (classOf e) isMiddle
+place-length b isMiddle operands e ts = go (classOf e) isMiddle
   where
     helper : Record
-    helper = operation 0 (getD operands (nodeOf e) 0) 1
+    helper = operation b 0 (getD operands (nodeOf e) 0) 1
 
     go : (k : Class) (t : Bool)
         → let p : Placed = if isConstant k then record { operand = if t then 1 - e else e; table = ts }
@@ -40,15 +40,15 @@ pub gate-length : (operands : List ℕ) (r : Record) (ts : List Record) → leng
 unfolding gate3 gateOperations helpersOf
 gate-length operands r ts =
     let mid = middleOf r in
-    let p = place (eqb mid 1) operands (r .e1) ts in
-    let q = place (eqb mid 2) operands (r .e2) (p .table) in
-    let s = place (eqb mid 3) operands (r .e3) (q .table) in
+    let p = place (r .block) (eqb mid 1) operands (r .e1) ts in
+    let q = place (r .block) (eqb mid 2) operands (r .e2) (p .table) in
+    let s = place (r .block) (eqb mid 3) operands (r .e3) (q .table) in
     omega (
       arith,
-      place-length (eqb mid 1) operands (r .e1) ts,
-      place-length (eqb mid 2) operands (r .e2) (p .table),
-      place-length (eqb mid 3) operands (r .e3) (q .table),
-      length-more (s .table) (inOrder mid (p .operand) (q .operand) (s .operand)),
+      place-length (r .block) (eqb mid 1) operands (r .e1) ts,
+      place-length (r .block) (eqb mid 2) operands (r .e2) (p .table),
+      place-length (r .block) (eqb mid 3) operands (r .e3) (q .table),
+      length-more (s .table) (inOrder (r .block) mid (p .operand) (q .operand) (s .operand)),
     )
 
 -- how many records of the RM3 table stand for a node
@@ -73,5 +73,5 @@ pub outputs-length : (operands : List ℕ) (ts os rs : List Record) → length (
 unfolding total outputOperations
 outputs-length operands ts os [] = omega arith
 outputs-length operands ts os (r ∷ rs) =
-    let p = place false operands (r .e1) ts in
-    omega (arith, outputs-length operands (p .table) (os ++ output (p .operand) ∷ []) rs, place-length false operands (r .e1) ts)
+    let p = place 0 false operands (r .e1) ts in
+    omega (arith, outputs-length operands (p .table) (os ++ output (p .operand) ∷ []) rs, place-length 0 false operands (r .e1) ts)

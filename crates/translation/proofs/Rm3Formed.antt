@@ -1,5 +1,5 @@
 -- The translation of a well-formed table: what stands in it for each node and output, and that it is a well-formed RM3 table.
-use Prim.Native.Nat.{ℕ, suc, _+_, _-_, _<_}
+use Prim.Native.Nat.{ℕ, suc, _+_, _-_, _≤_, _<_}
 use mathlib.Core.Path.{_≡_, _∙_}
 use mathlib.Core.List.{List, [], _∷_}
 use native.Mathlib.Omega.{arith}
@@ -8,12 +8,13 @@ use lib.Seq.{length-take-le, getD-take, getD-drop, getD-append-add}
 use Rattle.majority.specs.Table.{blank, output, recordAt, WellFormed}
 use Rattle.translation.specs.Rm3.{WellFormed3}
 use Rattle.translation.specs.Translate.{nodes3, operandsOf, parts3, translation, operations}
+use Rattle.translation.specs.Block3.{upTo}
 use Rattle.majority.specs.declared.Record.{Record}
-use Rattle.translation.proofs.Begins.{Begins, begins-same, begins-then, begins-append}
-use Rattle.translation.proofs.Rm3Place.{Fits}
+use Rattle.translation.proofs.Begins.{Begins, All, begins-same, begins-then, begins-append}
+use Rattle.translation.proofs.Rm3Place.{Fits, Blocked, blocked-none}
 use Rattle.translation.proofs.Rm3Nodes.{nodes-begin}
 use Rattle.translation.proofs.Rm3Stands.{Stands, Translated, nodes-translated}
-use Rattle.translation.proofs.Rm3Outputs.{Names, Written, outputs-begin, outputs-written}
+use Rattle.translation.proofs.Rm3Outputs.{Names, Written, outputs-begin, outputs-blocks, outputs-written}
 
 -- the inputs and operations of the translation of a table of n inputs and m gates, without the helpers of the outputs
 unfoldable nodeTable : ℕ → ℕ → List Record → List Record
@@ -33,6 +34,7 @@ pub record Translation (n m o : ℕ) (rs : List Record) : Type 0 where
   pub size : length (parts3 n m rs .table) ≡ n + operations n m rs
   pub stands : (j : ℕ) → j < n + m → Stands n (operandsOf n m rs) (translation n m rs) j (recordAt rs j)
   pub fits : (j : ℕ) → j < n + operations n m rs → Fits n j (recordAt (translation n m rs) j)
+  pub helpers : (j : ℕ) → upTo n m rs (n + m) ≤ j → j < n + operations n m rs → recordAt (translation n m rs) j .block ≡ 0
   pub written : length (parts3 n m rs .outputs) ≡ o
   pub outputs : (j : ℕ) → j < o
       → Names (operandsOf n m rs) (translation n m rs) (n + operations n m rs + 2) (recordAt rs (n + m + j) .e1) (recordAt (translation n m rs) (n + operations n m rs + j))
@@ -77,6 +79,13 @@ module _ {n m o : ℕ} {rs : List Record} (formed : WellFormed n m o rs) where
   unfolding operations
   size = omega (arith, all-outputs .late)
 
+  -- behind what was made for nodes there are the helpers of outputs
+  helpers : All blank (Blocked (upTo n m rs (n + m)) 0) (parts3 n m rs .table)
+  unfolding operandsOf nodeTable parts3
+  helpers =
+      let done = nodes3 (0 ∷ []) [] (take (n + m) rs) in
+      rw (rw front at (all-nodes .here)) (outputs-blocks _ (done .operands) (done .table) [] (drop (n + m) rs) (blocked-none (done .table) 0))
+
   written : length (parts3 n m rs .outputs) ≡ o
   written = rw back at (all-outputs .count)
 
@@ -90,6 +99,7 @@ module _ {n m o : ℕ} {rs : List Record} (formed : WellFormed n m o rs) where
         size = size;
         stands = λ j h. rw (← node-at j h) (all-nodes .stands j (omega (arith, front)));
         fits = λ j h. rw (operations-first n m rs .same j (omega (arith, size))) (all-outputs .fits .each j (omega (arith, size)));
+        helpers = λ j l h. rw (operations-first n m rs .same j (omega (arith, size))) (helpers .each j (omega (arith, size)) l);
         written = written;
         outputs = λ j h. rw (← size, getD-append-add table outputs j blank, ← getD-drop (n + m) rs j blank) (all-outputs .outputs .each j (omega (arith, written)));
       }

@@ -13,7 +13,7 @@ use Rattle.translation.specs.Translate.{Placed, classOf, middle, place, 
 use Rattle.majority.specs.declared.Record.{Record}
 use Rattle.translation.proofs.Begins.{Begins, All, begins-then, begins-append, begins-last, all-more, length-more}
 use Rattle.translation.proofs.Rm3Worth.{Lower}
-use Rattle.translation.proofs.Rm3Place.{Serves, Fits, operation-fits, Known, known-more, Placement, place-begins, placement}
+use Rattle.translation.proofs.Rm3Place.{Serves, Fits, operation-fits, Blocked, blocked-none, Known, known-more, Placement, place-begins, place-blocks, placement}
 
 -- the middle place of a gate
 abbrev pub middleOf : Record → ℕ
@@ -30,49 +30,75 @@ pub record Made (operands : List ℕ) (ts : List Record) (r : Record) (x : ℕ) 
   pub first : Serves operands ts (eqb (middleOf r) 1) (r .e1) operand1
   pub second : Serves operands ts (eqb (middleOf r) 2) (r .e2) operand2
   pub third : Serves operands ts (eqb (middleOf r) 3) (r .e3) operand3
-  pub is : recordAt ts at ≡ inOrder (middleOf r) operand1 operand2 operand3
+  pub is : recordAt ts at ≡ inOrder (r .block) (middleOf r) operand1 operand2 operand3
 
 -- whichever place is the middle, an operation reads the three operands
-in-order-lower : (mid b x y z : ℕ) → x < b → y < b → z < b → (inOrder mid x y z .kind ≡ 4) × Lower b (inOrder mid x y z)
-in-order-lower mid b x y z p q s = go (eqb mid 1) (eqb mid 2)
+in-order-lower : (block mid b x y z : ℕ) → x < b → y < b → z < b → (inOrder block mid x y z .kind ≡ 4) × Lower b (inOrder block mid x y z)
+in-order-lower block mid b x y z p q s = go (eqb mid 1) (eqb mid 2)
   where
-    go : (t u : Bool) → ((if t then operation y x z else if u then operation x y z else operation x z y) .kind ≡ 4)
-        × Lower b (if t then operation y x z else if u then operation x y z else operation x z y)
+    go : (t u : Bool) → ((if t then operation block y x z else if u then operation block x y z else operation block x z y) .kind ≡ 4)
+        × Lower b (if t then operation block y x z else if u then operation block x y z else operation block x z y)
     go true u = (refl, record { first = q; second = p; third = s })
     go false true = (refl, record { first = p; second = q; third = s })
     go false false = (refl, record { first = p; second = s; third = q })
 
+-- and has its block
+in-order-block : (block mid x y z : ℕ) → inOrder block mid x y z .block ≡ block
+in-order-block block mid x y z = go (eqb mid 1) (eqb mid 2)
+  where
+    go : (t u : Bool) → (if t then operation block y x z else if u then operation block x y z else operation block x z y) .block ≡ block
+    go true u = refl
+    go false true = refl
+    go false false = refl
+
 module _ (operands : List ℕ) (r : Record) (ts : List Record) where
   abbrev p : Placed
-  p = place (eqb (middleOf r) 1) operands (r .e1) ts
+  p = place (r .block) (eqb (middleOf r) 1) operands (r .e1) ts
 
   abbrev q : Placed
-  q = place (eqb (middleOf r) 2) operands (r .e2) (p .table)
+  q = place (r .block) (eqb (middleOf r) 2) operands (r .e2) (p .table)
 
   abbrev s : Placed
-  s = place (eqb (middleOf r) 3) operands (r .e3) (q .table)
+  s = place (r .block) (eqb (middleOf r) 3) operands (r .e3) (q .table)
 
   abbrev made : Record
-  made = inOrder (middleOf r) (p .operand) (q .operand) (s .operand)
+  made = inOrder (r .block) (middleOf r) (p .operand) (q .operand) (s .operand)
+
+  helpers-begin : Begins blank ts (s .table)
+  helpers-begin =
+      begins-then (begins-then (place-begins _ operands (r .e1) ts _) (place-begins _ operands (r .e2) (p .table) _))
+      (place-begins _ operands (r .e3) (q .table) _)
 
   pub gate-begins : Begins blank ts (gate3 operands r ts)
   unfolding gate3
-  gate-begins =
-      begins-then (begins-then (place-begins operands (r .e1) ts _) (place-begins operands (r .e2) (p .table) _))
-      (begins-then (place-begins operands (r .e3) (q .table) _) (begins-append (s .table) (made ∷ [])))
+  gate-begins = begins-then helpers-begin (begins-append (s .table) (made ∷ []))
+
+  pub gate-longer : length ts < length (gate3 operands r ts)
+  unfolding gate3
+  gate-longer = omega (arith, helpers-begin .longer, length-more (s .table) made)
+
+  -- what is put there has the gate's block
+  pub gate-blocks : All blank (Blocked (length ts) (r .block)) (gate3 operands r ts)
+  unfolding gate3
+  gate-blocks =
+      all-more made
+      (place-blocks _ operands (r .e3) (q .table) (length ts) _
+      (place-blocks _ operands (r .e2) (p .table) (length ts) _
+      (place-blocks _ operands (r .e1) ts (length ts) _ (blocked-none ts (r .block)))))
+      (λ l. in-order-block (r .block) (middleOf r) _ _ _)
 
 module _ {n : ℕ} {final operands : List ℕ} {ts : List Record} (r : Record) (known : Known final operands ts) (late : n ≤ length ts) (reads : Below (length operands) r) where
   placed1 : Placement n final (eqb (middleOf r) 1) (r .e1) ts (p operands r ts)
-  placed1 = placement _ (r .e1) known late (reads .first)
+  placed1 = placement _ _ (r .e1) known late (reads .first)
 
   placed2 : Placement n final (eqb (middleOf r) 2) (r .e2) (p operands r ts .table) (q operands r ts)
-  placed2 = placement _ (r .e2) (known-more (placed1 .begins) known) (omega (arith, placed1 .begins .longer)) (reads .second)
+  placed2 = placement _ _ (r .e2) (known-more (placed1 .begins) known) (omega (arith, placed1 .begins .longer)) (reads .second)
 
   both : Begins blank ts (q operands r ts .table)
   both = begins-then (placed1 .begins) (placed2 .begins)
 
   placed3 : Placement n final (eqb (middleOf r) 3) (r .e3) (q operands r ts .table) (s operands r ts)
-  placed3 = placement _ (r .e3) (known-more both known) (omega (arith, both .longer)) (reads .third)
+  placed3 = placement _ _ (r .e3) (known-more both known) (omega (arith, both .longer)) (reads .third)
 
   whole-length : length (gate3 operands r ts) ≡ suc (length (s operands r ts .table))
   unfolding gate3
@@ -80,7 +106,7 @@ module _ {n : ℕ} {final operands : List ℕ} {ts : List Record} (r : Record) (
 
   reads-lower : (made operands r ts .kind ≡ 4) × Lower (length (s operands r ts .table) + 2) (made operands r ts)
   reads-lower =
-      in-order-lower (middleOf r) _ _ _ _ (omega (arith, placed1 .low, placed2 .begins .longer, placed3 .begins .longer)) (omega (arith, placed2 .low, placed3 .begins .longer)) (placed3 .low)
+      in-order-lower (r .block) (middleOf r) _ _ _ _ (omega (arith, placed1 .low, placed2 .begins .longer, placed3 .begins .longer)) (omega (arith, placed2 .low, placed3 .begins .longer)) (placed3 .low)
 
   pub gate-fits : All blank (Fits n) ts → All blank (Fits n) (gate3 operands r ts)
   unfolding gate3

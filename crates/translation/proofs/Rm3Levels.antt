@@ -62,13 +62,13 @@ module _ {n p o : ℕ} {ts : List Record} (formed : WellFormed3 n p o ts) (opera
       opposite true = omega arith
       opposite false = omega arith
   serves-level t e x (direct h) = omega (arith, no-helper t e h)
-  serves-level t e x (helped some h i l is) = operation-worth formed levels i 0 (getD operands (nodeOf e) 0) 1 l is ∙ helper-level (v (nodeOf e)) ∙ omega (arith, one-helper t e some h)
+  serves-level t e x (helped some h i b l is) = operation-worth formed levels i 0 (getD operands (nodeOf e) 0) 1 l is ∙ helper-level (v (nodeOf e)) ∙ omega (arith, one-helper t e some h)
 
   -- whichever place is the middle
-  in-order-level : (mid j x y z : ℕ) → j < length ts → recordAt ts j ≡ inOrder mid x y z → f (j + 2) ≡ above (f x) (f y) (f z)
-  in-order-level mid j x y z h = go (eqb mid 1) (eqb mid 2)
+  in-order-level : (b mid j x y z : ℕ) → j < length ts → recordAt ts j ≡ inOrder b mid x y z → f (j + 2) ≡ above (f x) (f y) (f z)
+  in-order-level b mid j x y z h = go (eqb mid 1) (eqb mid 2)
     where
-      go : (t u : Bool) → recordAt ts j ≡ (if t then operation y x z else if u then operation x y z else operation x z y) → f (j + 2) ≡ above (f x) (f y) (f z)
+      go : (t u : Bool) → recordAt ts j ≡ (if t then operation b y x z else if u then operation b x y z else operation b x z y) → f (j + 2) ≡ above (f x) (f y) (f z)
       go true u is = operation-worth formed levels j y x z h is ∙ above-first-second (f x) (f y) (f z)
       go false true is = operation-worth formed levels j x y z h is
       go false false is = operation-worth formed levels j x z y h is ∙ above-second-third (f x) (f y) (f z)
@@ -77,7 +77,7 @@ module _ {n p o : ℕ} {ts : List Record} (formed : WellFormed3 n p o ts) (opera
   unfolding gateLevel
   made-level r x made =
       rw (made .numbered, ← serves-level _ _ _ (made .first), ← serves-level _ _ _ (made .second), ← serves-level _ _ _ (made .third))
-      (in-order-level (middleOf r) (made .at) _ _ _ (made .inside) (made .is))
+      (in-order-level (r .block) (middleOf r) (made .at) _ _ _ (made .inside) (made .is))
 
 module _ {n m o : ℕ} {rs : List Record} (formed : WellFormed n m o rs) where
   -- the operand of the constant and of an input stands at 0, that of a gate is its operation

@@ -10,17 +10,22 @@ use Rattle.majority.specs.Table.{blank, output, recordAt}
 use Rattle.translation.specs.Translate.{place, outputs3}
 use Rattle.majority.specs.declared.Record.{Record}
 use Rattle.translation.proofs.Begins.{Begins, All, begins-same, begins-then, all-more, length-more}
-use Rattle.translation.proofs.Rm3Place.{Serves, Fits, Known, known-more, Placement, place-begins, placement}
+use Rattle.translation.proofs.Rm3Place.{Serves, Fits, Blocked, Known, known-more, Placement, place-begins, place-blocks, placement}
 
 -- operations are only put at the end
 pub outputs-begin : (operands : List ℕ) (ts os rs : List Record) → Begins blank ts (outputs3 operands ts os rs .table)
 outputs-begin operands ts os [] = begins-same ts
-outputs-begin operands ts os (r ∷ rs) = begins-then (place-begins operands (r .e1) ts false) (outputs-begin operands _ _ rs)
+outputs-begin operands ts os (r ∷ rs) = begins-then (place-begins _ operands (r .e1) ts false) (outputs-begin operands _ _ rs)
+
+-- and have block 0
+pub outputs-blocks : (k : ℕ) (operands : List ℕ) (ts os rs : List Record) → All blank (Blocked k 0) ts → All blank (Blocked k 0) (outputs3 operands ts os rs .table)
+outputs-blocks k operands ts os [] all = all
+outputs-blocks k operands ts os (r ∷ rs) all = outputs-blocks k operands _ _ rs (place-blocks _ operands (r .e1) ts k false all)
 
 -- induction over the outputs translated so far; `table` is what the operations become
 outputs-induction : (I : ℕ → List Record → List Record → Type 0) (operands : List ℕ) (table rs : List Record)
     → ((j : ℕ) (ts os : List Record) → j < length rs
-    → let p = place false operands (recordAt rs j .e1) ts in Begins blank (p .table) table → I j ts os → I (suc j) (p .table) (os ++ output (p .operand) ∷ []))
+    → let p = place 0 false operands (recordAt rs j .e1) ts in Begins blank (p .table) table → I j ts os → I (suc j) (p .table) (os ++ output (p .operand) ∷ []))
     → (ts os : List Record) → Begins blank (outputs3 operands ts os rs .table) table
     → I 0 ts os → I (length rs) (outputs3 operands ts os rs .table) (outputs3 operands ts os rs .outputs)
 outputs-induction I operands table [] step ts os b start = start
@@ -53,12 +58,12 @@ outputs-written {n} {operands} {ts} whole rs known late fits named b =
     table = outputs3 operands ts [] rs .table
 
     step : (j : ℕ) (ts os : List Record) → j < length rs
-        → let p = place false operands (recordAt rs j .e1) ts in
+        → let p = place 0 false operands (recordAt rs j .e1) ts in
         Begins blank (p .table) table → Written n operands table whole rs j ts os → Written n operands table whole rs (suc j) (p .table) (os ++ output (p .operand) ∷ [])
     step j ts os h c so =
         let e = recordAt rs j .e1 in
-        let p = place false operands e ts in
-        let placed : Placement n operands false e ts p = placement false e (so .known) (so .late) (named j h) in
+        let p = place 0 false operands e ts in
+        let placed : Placement n operands false e ts p = placement _ false e (so .known) (so .late) (named j h) in
         let this : Names operands whole (length table + 2) e (output (p .operand)) =
         record { is = refl; low = omega (arith, placed .low, c .longer); serves = placed .serves whole (begins-then c b) }
         in

@@ -65,27 +65,27 @@ module _ {A : Type 0} (𝓜 : Meaning A) (N E : A → A → Type 0) (𝓢 : Simu
   direct-served e true h q = rw h (𝓢 .inverses _ _ (𝓢 .edges _ _ q))
   direct-served e false h q = rw h (𝓢 .edges _ _ q)
 
-  helper-served : (e i : ℕ) (isMiddle : Bool) → isInverted e ≡ not isMiddle → i < length ts → recordAt ts i ≡ operation 0 (getD operands (nodeOf e) 0) 1 → Simulated e
+  helper-served : (e i b : ℕ) (isMiddle : Bool) → isInverted e ≡ not isMiddle → i < length ts → recordAt ts i ≡ operation b 0 (getD operands (nodeOf e) 0) 1 → Simulated e
       → E (edgeWorth 𝓜 v e) (inPlace isMiddle (i + 2))
   unfolding edgeWorth
-  helper-served e i true h l is q =
+  helper-served e i b true h l is q =
       rw (h, operation-worth formed 𝓜 i _ _ _ l is, false-worth 𝓜 ts, true-worth 𝓜 ts)
       (rw (𝓢 .twice) at (𝓢 .inverses _ _ (𝓢 .helpers _ _ q)))
-  helper-served e i false h l is q = rw (h, operation-worth formed 𝓜 i _ _ _ l is, false-worth 𝓜 ts, true-worth 𝓜 ts) (𝓢 .helpers _ _ q)
+  helper-served e i b false h l is q = rw (h, operation-worth formed 𝓜 i _ _ _ l is, false-worth 𝓜 ts, true-worth 𝓜 ts) (𝓢 .helpers _ _ q)
 
   -- an operand that serves an edge
   pub served : (isMiddle : Bool) (e x : ℕ) → Serves operands ts isMiddle e x → Simulated e → E (edgeWorth 𝓜 v e) (inPlace isMiddle x)
   served isMiddle e x (itself h) q = rw (constant-served e isMiddle h) (𝓢 .edges _ _ (𝓢 .same _))
   served isMiddle e x (direct h) q = direct-served e isMiddle h q
-  served isMiddle e x (helped some h i l is) q = helper-served e i isMiddle h l is q
+  served isMiddle e x (helped some h i b l is) q = helper-served e i b isMiddle h l is q
 
   -- the operation, whichever of its places is the middle
-  in-order : (r : Record) (i x y z : ℕ) (a b c : A) → i < length ts → recordAt ts i ≡ inOrder (middleOf r) x y z
+  in-order : (r : Record) (i x y z : ℕ) (a b c : A) → i < length ts → recordAt ts i ≡ inOrder (r .block) (middleOf r) x y z
       → E a (inPlace (eqb (middleOf r) 1) x) → E b (inPlace (eqb (middleOf r) 2) y) → E c (inPlace (eqb (middleOf r) 3) z)
       → N (𝓜 .gate a b c) (worth3 𝓜 ts (i + 2))
   in-order r i x y z a b c l =
       at-middle
-      (λ mid. recordAt ts i ≡ inOrder mid x y z → E a (inPlace (eqb mid 1) x) → E b (inPlace (eqb mid 2) y) → E c (inPlace (eqb mid 3) z) → N (𝓜 .gate a b c) (worth3 𝓜 ts (i + 2)))
+      (λ mid. recordAt ts i ≡ inOrder (r .block) mid x y z → E a (inPlace (eqb mid 1) x) → E b (inPlace (eqb mid 2) y) → E c (inPlace (eqb mid 3) z) → N (𝓜 .gate a b c) (worth3 𝓜 ts (i + 2)))
       (λ is p q s. rw (operation-worth formed 𝓜 i _ _ _ l is, 𝓢 .first-second (𝓜 .inverse (worth3 𝓜 ts x)) (worth3 𝓜 ts y)) (𝓢 .gates _ _ _ _ _ _ p q s))
       (λ is p q s. rw (operation-worth formed 𝓜 i _ _ _ l is) (𝓢 .gates _ _ _ _ _ _ p q s))
       (λ is p q s. rw (operation-worth formed 𝓜 i _ _ _ l is, 𝓢 .second-third (worth3 𝓜 ts x) (worth3 𝓜 ts y)) (𝓢 .gates _ _ _ _ _ _ p q s))

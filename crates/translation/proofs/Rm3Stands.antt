@@ -1,5 +1,5 @@
 -- What stands in the RM3 table for each input and gate, as the translation goes from record to record.
-use Prim.Native.Nat.{ℕ, suc, _+_, _≤_, _<_}
+use Prim.Native.Nat.{ℕ, suc, _+_, _-_, _≤_, _<_}
 use mathlib.Core.Path.{_≡_, refl, sym, ap, _∙_, subst}
 use mathlib.Core.List.{List, [], _∷_, _++_}
 use native.Mathlib.Omega.{arith}
@@ -7,21 +7,24 @@ use native.Mathlib.Decide.{decLt}
 use lib.ListN.{length, getD}
 use Rattle.majority.specs.Table.{blank, input, recordAt, Below}
 use Rattle.translation.specs.Translate.{after, gate3, nodes3}
+use Rattle.translation.specs.Block3.{OfBlock}
 use Rattle.majority.specs.declared.Record.{Record}
 use Rattle.translation.proofs.Begins.{Begins, All, begins-then, begins-append, begins-last, all-more, length-more}
 use Rattle.majority.proofs.Formed.{kind-two}
-use Rattle.translation.proofs.Rm3Place.{Fits, Known}
-use Rattle.translation.proofs.Rm3Gate.{Made, gate-begins, gate-fits, gate-made}
+use Rattle.translation.proofs.Rm3Place.{Fits, Blocked, blocked-none, Known}
+use Rattle.translation.proofs.Rm3Gate.{Made, gate-begins, gate-blocks, gate-longer, gate-fits, gate-made}
 use Rattle.translation.proofs.Rm3Nodes.{named, nodes-begin, nodes-induction}
 
--- what stands for record j, of n inputs and then gates: input j is operand j + 2, and a gate is its operation
+-- what stands for record j, of n inputs and then gates: input j is operand j + 2, and a gate is its operation; all that was made for it has its block
 pub record Stands (n : ℕ) (operands : List ℕ) (ts : List Record) (j : ℕ) (r : Record) : Type 0 where
   pub an-input : j < n → getD operands (suc j) 0 ≡ j + 2
   pub a-gate : n ≤ j → Made operands ts r (getD operands (suc j) 0)
+  pub block : OfBlock ts (getD operands j 0 - 1) (getD operands (suc j) 0 - 1) (r .block)
 
 -- the first j of the records rs are translated, where the operands and the table become `final` and `whole`
 pub record Translated (n : ℕ) (final : List ℕ) (whole rs : List Record) (j : ℕ) (operands : List ℕ) (ts : List Record) : Type 0 where
   pub count : length operands ≡ suc j
+  pub here : getD final j 0 - 1 ≡ length ts
   pub low : (k : ℕ) → k < length operands → getD final k 0 < length ts + 2
   pub inputs : j ≤ n → length ts ≡ j
   pub late : n ≤ j → n ≤ length ts
@@ -31,12 +34,26 @@ pub record Translated (n : ℕ) (final : List ℕ) (whole rs : List Record) (j :
 module _ (n : ℕ) (final : List ℕ) (whole rs : List Record)
     (inputs : (j : ℕ) → j < n → recordAt rs j ≡ input)
     (gates : (j : ℕ) → n ≤ j → j < length rs → (recordAt rs j .kind ≡ 2) × Below (suc j) (recordAt rs j)) where
+  -- the operand of the next node
+  next-operand : (j : ℕ) (operands : List ℕ) (ts next : List Record) → Translated n final whole rs j operands ts → Begins 0 (named operands next) final
+      → getD final (suc j) 0 ≡ length next + 1
+  next-operand j operands ts next so c = rw (← so .count) (begins-last operands (length next + 1) c)
+
+  -- the block of what was made for it
+  next-block : (j : ℕ) (operands : List ℕ) (ts next : List Record) → Translated n final whole rs j operands ts → Begins 0 (named operands next) final → Begins blank next whole
+      → length ts < length next → All blank (Blocked (length ts) (recordAt rs j .block)) next
+      → OfBlock whole (getD final j 0 - 1) (getD final (suc j) 0 - 1) (recordAt rs j .block)
+  next-block j operands ts next so c w longer all =
+      let end : getD final (suc j) 0 - 1 ≡ length next = omega (arith, next-operand j operands ts next so c) in
+      rw (so .here, end) (record { some = longer; each = λ i p q. ap (λ (r : Record). r .block) (w .same i q) ∙ all .each i q p })
+
   -- one record more
   more : (j : ℕ) (operands : List ℕ) (ts next : List Record) → Translated n final whole rs j operands ts → Begins blank ts next → Begins 0 (named operands next) final
       → (suc j ≤ n → length next ≡ suc j) → (n ≤ suc j → n ≤ length next) → All blank (Fits n) next → Stands n final whole j (recordAt rs j)
       → Translated n final whole rs (suc j) (named operands next) next
   more j operands ts next so b c early late all this = record {
     count = omega (arith, length-more operands (length next + 1), so .count);
+    here = omega (arith, next-operand j operands ts next so c);
     low = λ k h. low k h (decLt k (length operands));
     inputs = early;
     late = late;
@@ -54,19 +71,19 @@ module _ (n : ℕ) (final : List ℕ) (whole rs : List Record)
       stands i h (yes l) = so .stands i l
       stands i h (no l) = let e : i ≡ j = omega arith in rw e this
 
-  -- the operand of the next node
-  next-operand : (j : ℕ) (operands : List ℕ) (ts next : List Record) → Translated n final whole rs j operands ts → Begins 0 (named operands next) final
-      → getD final (suc j) 0 ≡ length next + 1
-  next-operand j operands ts next so c = rw (← so .count) (begins-last operands (length next + 1) c)
-
   input-more : (j : ℕ) (operands : List ℕ) (ts : List Record) → j < n → Translated n final whole rs j operands ts
-      → let next = ts ++ input ∷ [] in Begins 0 (named operands next) final → Translated n final whole rs (suc j) (named operands next) next
-  input-more j operands ts h so c =
+      → let next = ts ++ input ∷ [] in
+      Begins 0 (named operands next) final → Begins blank next whole → Translated n final whole rs (suc j) (named operands next) next
+  input-more j operands ts h so c w =
       let size : length ts ≡ j = so .inputs (omega arith) in
       let grown : length (ts ++ input ∷ []) ≡ suc j = rw (length-more ts input, size) in
       more j operands ts (ts ++ input ∷ []) so (begins-append ts (input ∷ [])) c (λ l. grown) (λ l. omega arith)
       (all-more input (so .fits) (record { an-input = λ q. refl; an-operation = λ q. absurd (omega arith) }))
-      (record { an-input = λ l. next-operand j operands ts (ts ++ input ∷ []) so c ∙ rw grown (omega arith); a-gate = λ l. absurd (omega arith) })
+      (record {
+        an-input = λ l. next-operand j operands ts (ts ++ input ∷ []) so c ∙ rw grown (omega arith);
+        a-gate = λ l. absurd (omega arith);
+        block = next-block j operands ts (ts ++ input ∷ []) so c w (omega (arith, length-more ts input)) (rw (inputs j h) (all-more input (blocked-none ts 0) (λ l. refl)));
+      })
 
   gate-more : (j : ℕ) (operands : List ℕ) (ts : List Record) → n ≤ j → j < length rs → Translated n final whole rs j operands ts
       → let next = gate3 operands (recordAt rs j) ts in
@@ -81,7 +98,11 @@ module _ (n : ℕ) (final : List ℕ) (whole rs : List Record)
       let late = so .late l in
       more j operands ts next so b c (λ q. absurd (omega arith)) (λ q. omega (arith, b .longer))
       (gate-fits r known late reads (so .fits))
-      (record { an-input = λ q. absurd (omega arith); a-gate = λ q. rw is (gate-made r known late reads whole w) })
+      (record {
+        an-input = λ q. absurd (omega arith);
+        a-gate = λ q. rw is (gate-made r known late reads whole w);
+        block = next-block j operands ts next so c w (gate-longer operands r ts) (gate-blocks operands r ts);
+      })
 
   -- record j, as `after` has it
   abbrev Step : ℕ → List ℕ → List Record → List Record → Type 0
@@ -91,7 +112,7 @@ module _ (n : ℕ) (final : List ℕ) (whole rs : List Record)
   step : (j : ℕ) (operands : List ℕ) (ts : List Record) → j < length rs → Dec (j < n) → Step j operands ts (after operands ts (recordAt rs j))
   step j operands ts h (yes l) =
       subst (Step j operands ts) (sym (ap (after operands ts) (inputs j l)))
-      (λ c w so. input-more j operands ts l so c)
+      (λ c w so. input-more j operands ts l so c w)
   step j operands ts h (no l) =
       subst (Step j operands ts) (sym (kind-two (recordAt rs j .kind) _ _ _ _ (gates j (omega arith) h .0)))
       (λ c w so. gate-more j operands ts (omega arith) h so c w)
@@ -104,6 +125,7 @@ module _ (n : ℕ) (final : List ℕ) (whole rs : List Record)
       nodes-induction (Translated n final whole rs) final whole rs (λ j operands ts h. step j operands ts h (decLt j n)) (0 ∷ []) [] b c
       (record {
         count = refl;
+        here = rw first;
         low = λ k h. let e : k ≡ 0 = omega arith in rw (e, first) (omega arith);
         inputs = λ h. refl;
         late = λ h. h;

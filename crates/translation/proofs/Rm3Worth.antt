@@ -64,8 +64,8 @@ module _ {n p o : ℕ} {ts : List Record} (formed : WellFormed3 n p o ts) where
       let e : j + 2 - 1 ≡ j + 1 = omega arith in
       formed3-eq 𝓜 j (omega arith) ∙ rw (formed .inputs j h, e)
 
-  -- what it is worth where it is this operation
-  pub operation-worth : {A : Type 0} (𝓜 : Meaning A) (j x y z : ℕ) → j < length ts → recordAt ts j ≡ operation x y z
+  -- what it is worth where it is this operation, of whichever block
+  pub operation-worth : {A : Type 0} (𝓜 : Meaning A) (j x y z : ℕ) {b : ℕ} → j < length ts → recordAt ts j ≡ operation b x y z
       → worth3 𝓜 ts (j + 2) ≡ 𝓜 .gate (worth3 𝓜 ts x) (𝓜 .inverse (worth3 𝓜 ts y)) (worth3 𝓜 ts z)
   unfolding operandWorth
   operation-worth 𝓜 j x y z h is = operand-eq 𝓜 ts reads-lower3 j h ∙ ap (operandWorth 𝓜 (worth3 𝓜 ts) (j + 2)) is

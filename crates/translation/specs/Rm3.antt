@@ -11,9 +11,9 @@ use Rattle.majority.specs.Value.{values}
 use Rattle.majority.specs.Level.{levels, highest}
 use Rattle.majority.specs.declared.Record.{Record}
 
--- the operation with the operands x, y and z
-abbrev pub operation : ℕ → ℕ → ℕ → Record
-operation x y z = recordOf 4 x y z
+-- the operation of block b with the operands x, y and z
+abbrev pub operation : ℕ → ℕ → ℕ → ℕ → Record
+operation b x y z = recordOf 4 b x y z
 
 -- a choice by the kind of a record: an input, an operation, an output, or none of these
 abbrev pub byKind3 : {A : Type 0} → ℕ → A → A → A → A → A

@@ -47,27 +47,27 @@ pub record Placed : Type 0 where
   pub operand : ℕ
   pub table : List Record
 
--- the operand for the edge e: that of its node where no helper is needed; else a helper (0, node, 1), made anew at the end of the table so far;
+-- the operand for the edge e: that of its node where no helper is needed; else a helper (0, node, 1) of block b, made anew at the end of the table so far;
 -- a constant is itself, and in the middle place its opposite. `operands` has the operand of each node
-unfoldable pub place : Bool → List ℕ → ℕ → List Record → Placed
-place isMiddle operands e ts =
+unfoldable pub place : ℕ → Bool → List ℕ → ℕ → List Record → Placed
+place b isMiddle operands e ts =
     let node = getD operands (nodeOf e) 0 in
     if isConstant (classOf e) then record { operand = if isMiddle then 1 - e else e; table = ts }
-    else if needsHelper isMiddle (classOf e) then record { operand = length ts + 2; table = ts ++ operation 0 node 1 ∷ [] }
+    else if needsHelper isMiddle (classOf e) then record { operand = length ts + 2; table = ts ++ operation b 0 node 1 ∷ [] }
     else record { operand = node; table = ts }
 
--- the gate's operation: the first other edge, the middle, the last other edge
-abbrev pub inOrder : ℕ → ℕ → ℕ → ℕ → Record
-inOrder mid a b c = if eqb mid 1 then operation b a c else if eqb mid 2 then operation a b c else operation a c b
+-- the operation of a gate of block b: the first other edge, the middle, the last other edge
+abbrev pub inOrder : ℕ → ℕ → ℕ → ℕ → ℕ → Record
+inOrder b mid x y z = if eqb mid 1 then operation b y x z else if eqb mid 2 then operation b x y z else operation b x z y
 
--- a gate is translated: helpers in edge order, then its operation
+-- a gate is translated: helpers in edge order, then its operation, all of its block
 unfoldable pub gate3 : List ℕ → Record → List Record → List Record
 gate3 operands r ts =
     let mid = middle (classOf (r .e1)) (classOf (r .e2)) (classOf (r .e3)) in
-    let p = place (eqb mid 1) operands (r .e1) ts in
-    let q = place (eqb mid 2) operands (r .e2) (p .table) in
-    let s = place (eqb mid 3) operands (r .e3) (q .table) in
-    s .table ++ inOrder mid (p .operand) (q .operand) (s .operand) ∷ []
+    let p = place (r .block) (eqb mid 1) operands (r .e1) ts in
+    let q = place (r .block) (eqb mid 2) operands (r .e2) (p .table) in
+    let s = place (r .block) (eqb mid 3) operands (r .e3) (q .table) in
+    s .table ++ inOrder (r .block) mid (p .operand) (q .operand) (s .operand) ∷ []
 
 -- the table so far with what stands for the node of the record r: an input is itself, a gate is translated
 abbrev pub after : List ℕ → List Record → Record → List Record
@@ -94,11 +94,11 @@ pub record Outputs3 : Type 0 where
   pub table : List Record
   pub outputs : List Record
 
--- each output names its edge's operand; an inverted one that is no constant gets a helper, in output order
+-- each output names its edge's operand; an inverted one that is no constant gets a helper, of block 0, in output order
 abbrev pub outputs3 : List ℕ → List Record → List Record → List Record → Outputs3
 outputs3 operands ts os [] = record { table = ts; outputs = os }
 outputs3 operands ts os (r ∷ rs) =
-    let p = place false operands (r .e1) ts in
+    let p = place 0 false operands (r .e1) ts in
     outputs3 operands (p .table) (os ++ output (p .operand) ∷ []) rs
 
 -- the parts of the translation of a table of n inputs and m gates: nodes first, and after all gates the outputs

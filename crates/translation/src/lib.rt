@@ -12,7 +12,7 @@ ghost use Rattle.translation.specs.Translate.{classOf, needsHelper, inOr
 ghost use Rattle.translation.specs.Patterns.{classNumber, patternOf};
 
 // The kind of an operation's record.
-pub const OPERATION: u16 = 4;
+pub const OPERATION: u8 = 4;
 
 // The classes of edges.
 const CONSTANT: usize = 0;
@@ -95,11 +95,13 @@ pub fn output_helped(edge: u16) -> bool
     class(edge) == INVERTED
 }
 
-pub fn operation(x: u16, y: u16, z: u16) -> Record
-    ensures { λ r. ⌜ r ≡ operationRecord x y z ⌝ }
+// The operation of a block.
+pub fn operation(block: u8, x: u16, y: u16, z: u16) -> Record
+    ensures { λ r. ⌜ r ≡ operationRecord block x y z ⌝ }
 {
     Record {
         kind: OPERATION,
+        block,
         e1: x,
         e2: y,
         e3: z,
@@ -111,15 +113,16 @@ pub fn output(operand: u16) -> Record
 {
     Record {
         kind: OUTPUT,
+        block: 0,
         e1: operand,
         e2: 0,
         e3: 0,
     }
 }
 
-// The operation of a gate with this middle place, whose edges have these operands.
-pub fn in_order(middle: u8, first: u16, second: u16, third: u16) -> Record
-    ensures { λ r. ⌜ r ≡ inOrder middle first second third ⌝ }
+// The operation of a gate of this block with this middle place, whose edges have these operands.
+pub fn in_order(block: u8, middle: u8, first: u16, second: u16, third: u16) -> Record
+    ensures { λ r. ⌜ r ≡ inOrder block middle first second third ⌝ }
 {
     let mut x = first;
     let mut y = third;
@@ -136,5 +139,5 @@ pub fn in_order(middle: u8, first: u16, second: u16, third: u16) -> Record
         }
         _ => {}
     }
-    operation(x, y, z)
+    operation(block, x, y, z)
 }

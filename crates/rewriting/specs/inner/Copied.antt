@@ -7,6 +7,7 @@ use lib.ListN.{length, drop}
 use Rattle.majority.specs.If.{if_then_else_}
 use Rattle.majority.specs.Edge.{flip, redirect}
 use Rattle.majority.specs.Edit.{edges}
+use Rattle.rules.specs.Voter.{inBlock}
 use Rattle.majority.specs.declared.Record.{Record}
 use Rattle.tables.specs.Bytes.{recordIn}
 use Rattle.editing.specs.Edited.{raise16}
@@ -40,9 +41,9 @@ pub record Copyable (n g before k : ℕ) (xs : List ℕ) : Type 0 where
   pub known : k ≤ 5000
   pub room : 8 * (g + above n g before) ≤ length xs
 
--- ys is xs with copies of its records from the first gate up to g
-pub record Copied (n g before k e : ℕ) (xs ys : List ℕ) : Type 0 where
+-- ys is xs with copies of its records from the first gate up to g, all in the block b
+pub record Copied (n g before k e b : ℕ) (xs ys : List ℕ) : Type 0 where
   pub long : length ys ≡ length xs
   pub rest : drop (8 * (g + above n g before)) ys ≡ drop (8 * (g + above n g before)) xs
   pub records : (j : ℕ) → j < g + above n g before
-      → recordIn ys j ≡ (if ltb j (n + above n g before) then recordIn xs j else edges (copyEdge n g before k e) (recordIn xs (j - above n g before)))
+      → recordIn ys j ≡ (if ltb j (n + above n g before) then recordIn xs j else inBlock b (edges (copyEdge n g before k e) (recordIn xs (j - above n g before))))

@@ -4,16 +4,17 @@ use Prim.Native.Nat.{_+_, _-_, _≤_}
 use mathlib.Core.Path.{_≡_}
 use native.Mathlib.Omega.{arith}
 use Rattle.majority.specs.Edit.{edges}
+use Rattle.rules.specs.Voter.{inBlock}
 use Rattle.rewriting.specs.inner.Copied.{above, copiedBy}
 use Rattle.rewriting.proofs.CopiedGates.{Copying, copying-start, copying-next, copying-end}
 use Rattle.rewriting.proofs.voting.copy_gates.Statement.{statement}
 use Rattle.rewriting.proofs.voting.copy_gates.Tie as tie
 
 abbrev Inv-loop : tie.InvT-loop
-Inv-loop s₀ inputs gate before from to up copy k done₀ s done = (done ≤ gate - inputs) × Copying (edges (copiedBy copy)) gate (above inputs gate before) s₀ (gate - done) s
+Inv-loop s₀ inputs gate before from to block up copy k done₀ s done = (done ≤ gate - inputs) × Copying (λ r. inBlock block (edges (copiedBy copy) r)) gate (above inputs gate before) s₀ (gate - done) s
 
 abbrev μ-loop : tie.MeasureT-loop
-μ-loop s₀ inputs gate before from to up copy k done₀ s done = gate - done
+μ-loop s₀ inputs gate before from to block up copy k done₀ s done = gate - done
 
 add-up : tie.Need-add-up Inv-loop μ-loop
 add-up c = omega (arith, c .before .pre .small)
@@ -41,7 +42,7 @@ sub-k c = omega (arith, c .before .before .before .pre .some)
 loop-holds : tie.Need-loop-holds Inv-loop μ-loop
 loop-holds c = let v = c .before .before .before .args in
     let all : v .gate - 0 ≡ v .gate = omega arith in
-    (omega arith, rw all (copying-start (edges (copiedBy (c .copying .result))) _ _ _))
+    (omega arith, rw all (copying-start (λ r. inBlock (v .block) (edges (copiedBy (c .copying .result)) r)) _ _ _))
 
 add-done : tie.Need-add-done Inv-loop μ-loop
 add-done c = omega (arith, c .loop-test .taken)
@@ -72,7 +73,7 @@ loop-again c = let l = c .before .before .before .before .before .before .before
     let some = can .some in
     let back : v .gate - (l .loop .done + 1) + 1 ≡ v .gate - l .loop .done = omega arith in
     let rise : v .gate + v .before - v .inputs - 1 ≡ above (v .inputs) (v .gate) (v .before) = omega arith in
-    let next = copying-next (edges (copiedBy (l .before .copying .result))) (v .gate) (above (v .inputs) (v .gate) (v .before)) (v .s .now) (can .room) (l .loop .s) (v .gate - (l .loop .done + 1)) (omega arith) (rw back (l .loop .inv .1)) in
+    let next = copying-next (λ r. inBlock (v .block) (edges (copiedBy (l .before .copying .result)) r)) (v .gate) (above (v .inputs) (v .gate) (v .before)) (v .s .now) (can .room) (l .loop .s) (v .gate - (l .loop .done + 1)) (omega arith) (rw back (l .loop .inv .1)) in
     (omega arith, rw (c .before .before .put-record .ensures, c .before .before .before .copied-record .ensures, c .before .before .before .before .before .record-at .ensures, rise) next)
 
 same-length : tie.Need-same-length Inv-loop μ-loop
@@ -83,7 +84,7 @@ returns-2 c = let l = c .before in
     let v = l .before .before .before .before .args in
     let can = l .before .before .before .before .pre in
     let down : v .gate - l .loop .done ≡ v .inputs = omega (arith, l .loop .inv .0, c .loop-test .left, can .some) in
-    copying-end (v .inputs) (v .gate) (v .before) (v .from) (v .to) (v .s .now) (l .loop .s) (rw (down, l .before .copying .ensures) at (l .loop .inv .1))
+    copying-end (v .inputs) (v .gate) (v .before) (v .from) (v .to) (v .block) (v .s .now) (l .loop .s) (rw (down, l .before .copying .ensures) at (l .loop .inv .1))
 
 pub copy-gates-spec : {M : Type 1} → statement M
 copy-gates-spec =

@@ -13,18 +13,18 @@ use Rattle.rm3.proofs.writing.place.Tie as tie
 node-requires : tie.Need-node-requires
 node-requires c κs = search needs
 
-sub-t11 : tie.Need-sub-t11
-sub-t11 c = search needs
+sub-t12 : tie.Need-sub-t12
+sub-t12 c = search needs
 
 returns : tie.Need-returns
 returns c = let d = c .before .before in
     let a = d .before .before .args in
-    rw (c .if2 .taken) (places-same (place-constant _ (a .operands .now) (a .edge) (sym (d .node .ensures) ∙ c .before .if1 .taken)))
+    rw (c .if2 .taken) (places-same (place-constant _ _ (a .operands .now) (a .edge) (sym (d .node .ensures) ∙ c .before .if1 .taken)))
 
 returns-2 : tie.Need-returns-2
 returns-2 c = let d = c .before .before in
     let a = d .before .before .args in
-    rw (c .if2 .left) (places-same (place-constant _ (a .operands .now) (a .edge) (sym (d .node .ensures) ∙ c .before .if1 .taken)))
+    rw (c .if2 .left) (places-same (place-constant _ _ (a .operands .now) (a .edge) (sym (d .node .ensures) ∙ c .before .if1 .taken)))
 
 node-requires-2 : tie.Need-node-requires-2
 node-requires-2 c κs = search needs
@@ -44,11 +44,11 @@ operation-requires c κs = search needs
 put-record-requires : tie.Need-put-record-requires
 put-record-requires c κs = search needs
 
-add-t22 : tie.Need-add-t22
-add-t22 c = search needs
-
 add-t23 : tie.Need-add-t23
 add-t23 c = search needs
+
+add-t24 : tie.Need-add-t24
+add-t24 c = search needs
 
 same-length : tie.Need-same-length
 same-length c = search needs
@@ -60,9 +60,9 @@ returns-3 c = let p = c .before .before in
     let f = d .before .before .before in
     let a = f .before .before .args in
     let pre = f .before .before .pre in
-    let helper = o .operation .ensures ∙ ap (λ (k : ℕ). operationRecord 0 (getD (a .operands .now) k 0) 1) (d .before .node2 .ensures) in
+    let helper = o .operation .ensures ∙ ap (λ (k : ℕ). operationRecord (a .block) 0 (getD (a .operands .now) k 0) 1) (d .before .node2 .ensures) in
     rw (p .put-record .ensures ∙ ap (putRecord (a .out .now) (a .at)) helper)
-    (places-more (place-helped _ (a .operands .now) (a .edge) (λ q. d .before .before .if1 .left (f .node .ensures ∙ q)) (sym (pre .1) ∙ o .before .before .if3 .taken)))
+    (places-more (place-helped _ _ (a .operands .now) (a .edge) (λ q. d .before .before .if1 .left (f .node .ensures ∙ q)) (sym (pre .1) ∙ o .before .before .if3 .taken)))
 
 returns-4 : tie.Need-returns-4
 returns-4 c = let d = c .before .before in
@@ -70,14 +70,14 @@ returns-4 c = let d = c .before .before in
     let a = f .before .before .args in
     let pre = f .before .before .pre in
     rw (d .node2 .ensures)
-    (places-same (place-direct _ (a .operands .now) (a .edge) (λ q. d .before .if1 .left (f .node .ensures ∙ q)) (sym (pre .1) ∙ c .if3 .left)))
+    (places-same (place-direct _ _ (a .operands .now) (a .edge) (λ q. d .before .if1 .left (f .node .ensures ∙ q)) (sym (pre .1) ∙ c .if3 .left)))
 
 pub place-spec : {M : Type 1} → statement M
 place-spec =
     tie.close
     (tie.spec
     node-requires
-    sub-t11
+    sub-t12
     returns
     returns-2
     node-requires-2
@@ -86,8 +86,8 @@ place-spec =
     element-copy-out-operand
     operation-requires
     put-record-requires
-    add-t22
     add-t23
+    add-t24
     same-length
     returns-3
     returns-4)

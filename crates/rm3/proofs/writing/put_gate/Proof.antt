@@ -1,5 +1,5 @@
 -- `writing::put_gate` meets its contract: the helpers in edge order, then the operation.
-use mathlib.Core.Path.{ap}
+use mathlib.Core.Path.{ap, _∙_}
 use native.Mathlib.Omega.{arith}
 use borrow.Author.Needs.{needs}
 use Rattle.translation.specs.Patterns.{patternBy}
@@ -52,7 +52,11 @@ add-result c = let g = c .before .before .before .before .before .before .before
     omega (arith, e .before .before .before .before .before .pre .1, e .place .ensures .near, f .place2 .ensures .near, g .place3 .ensures .near)
 
 same-length : tie.Need-same-length
-same-length c = search needs
+same-length c = let w = c .before .before .before in
+    let g = w .before .before .before .before .before .before in
+    let f = g .before .before .before .before .before in
+    let e = f .before .before .before .before .before in
+    w .put-record .kept .0 ∙ g .place3 .kept .1 .1 .1 .1 .1 .1 .0 ∙ f .place2 .kept .1 .1 .1 .1 .1 .1 .0 ∙ e .place .kept .1 .1 .1 .1 .1 .1 .0
 
 returns : tie.Need-returns
 unfolding patternBy

@@ -22,19 +22,19 @@ loop-holds : tie.Need-loop-holds Inv-loop μ-loop
 unfolding runEnd
 loop-holds c = search needs
 
-mul-get : tie.Need-mul-get Inv-loop μ-loop
-mul-get c = search needs
+mul-if1 : tie.Need-mul-if1 Inv-loop μ-loop
+mul-if1 c = search needs
 
-get-requires : tie.Need-get-requires Inv-loop μ-loop
-get-requires c κs = search needs
+shared-slice-read-if1 : tie.Need-shared-slice-read-if1 Inv-loop μ-loop
+shared-slice-read-if1 c = search needs
 
 returns : tie.Need-returns Inv-loop μ-loop
 unfolding otherKind
 returns c = let l = c .before .before .before in
-    let a = l .before .before .args in
+    let a = l .before .args in
     let here = table-at (a .s .now) (a .n) (l .loop .i) (c .before .before .loop-test .taken) in
     let other : otherKind (tableOf (a .s .now) (a .n)) (a .kind) (l .loop .i) ≡ true =
-    ap not (ne-eqb _ _ (λ e. c .if1 .taken (c .before .get .ensures ∙ ap (λ (r : Record). r .kind) (sym here) ∙ e)))
+    ap not (ne-eqb _ _ (λ e. c .if1 .taken (ap (λ (r : Record). r .kind) (sym here) ∙ e)))
     in
     sym (seek-stop _ _ _ _ (c .before .before .loop-test .taken) other (l .loop .inv .1))
 
@@ -47,10 +47,10 @@ loop-less c = search needs
 loop-again : tie.Need-loop-again Inv-loop μ-loop
 unfolding otherKind
 loop-again c = let l = c .before .before .before in
-    let a = l .before .before .args in
+    let a = l .before .args in
     let here = table-at (a .s .now) (a .n) (l .loop .i) (c .before .before .loop-test .taken) in
     let same : otherKind (tableOf (a .s .now) (a .n)) (a .kind) (l .loop .i) ≡ false =
-    ap not (eq-eqb _ _ (ap (λ (r : Record). r .kind) here ∙ sym (c .before .get .ensures) ∙ c .if1 .left))
+    ap not (eq-eqb _ _ (ap (λ (r : Record). r .kind) here ∙ c .if1 .left))
     in
     (search needs, seek-next _ _ _ _ (c .before .before .loop-test .taken) same (l .loop .inv .1))
 
@@ -64,8 +64,8 @@ run-end-spec =
     Inv-loop
     μ-loop
     loop-holds
-    mul-get
-    get-requires
+    mul-if1
+    shared-slice-read-if1
     returns
     add-i
     loop-less

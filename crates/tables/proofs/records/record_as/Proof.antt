@@ -3,6 +3,15 @@ use borrow.Author.Needs.{needs}
 use Rattle.tables.proofs.records.record_as.Statement.{statement}
 use Rattle.tables.proofs.records.record_as.Tie as tie
 
+mul-t4 : tie.Need-mul-t4
+mul-t4 c = search needs
+
+add-t5 : tie.Need-add-t5
+add-t5 c = search needs
+
+shared-slice-read-t7 : tie.Need-shared-slice-read-t7
+shared-slice-read-t7 c = search needs
+
 mul-get : tie.Need-mul-get
 mul-get c = search needs
 
@@ -38,6 +47,9 @@ pub record-as-spec : {M : Type 1} → statement M
 record-as-spec =
     tie.close
     (tie.spec
+    mul-t4
+    add-t5
+    shared-slice-read-t7
     mul-get
     add-get
     get-requires
