@@ -28,6 +28,14 @@ fn edge(line: Line, e: u16, inputs: usize) -> Line {
     node(line, number, inputs)
 }
 
+// The line of a gate with its block after its text, where that is not 0.
+fn block(line: Line, number: u8) -> Line {
+    if number == 0 {
+        return line;
+    }
+    line.word(b" block ").number(number as u64)
+}
+
 // What is shown of a record, number being its node where it is one.
 fn shown(r: Record, number: usize, inputs: usize) -> Line {
     if r.kind == majority::OUTPUT {
@@ -38,7 +46,7 @@ fn shown(r: Record, number: usize, inputs: usize) -> Line {
         let first = edge(line.word(b" = M("), r.e1, inputs);
         let second = edge(first.word(b", "), r.e2, inputs);
         let third = edge(second.word(b", "), r.e3, inputs);
-        return third.word(b")");
+        return block(third.word(b")"), r.block);
     }
     line
 }
@@ -80,7 +88,7 @@ fn main() {
         b"",
         b"it takes no argument",
         b"majshow < TABLE",
-        b"Shows the majority table on standard input, of at most 8704 bytes, in words.\nArguments: none.\nWrites a line a record: `x1` an input, `g4 = M(x1, !x2, 1)` a gate, the majority of three edges, `out !g6` an output;\nor `refused N at R E`, or `too long`.\n",
+        b"Shows the majority table on standard input, of at most 8704 bytes, in words.\nArguments: none.\nWrites a line a record: `x1` an input, `g4 = M(x1, !x2, 1)` a gate, the majority of three edges, with ` block B` after it\nwhere its block B is not 0, `out !g6` an output; or `refused N at R E`, or `too long`.\n",
     ) {
         Called::Rightly => program.end(run(program)),
         Called::Done(end) => program.end(end),
