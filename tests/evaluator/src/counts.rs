@@ -2,6 +2,7 @@
 //! gates.
 
 use crate::answer::Answer;
+use crate::block_counts::BlockCounts;
 use crate::depth_counts::DepthCounts;
 use crate::follow_counts::FollowCounts;
 use crate::request::{call, operations, Request, PAST_OPERATIONS};
@@ -33,6 +34,7 @@ pub struct Counts {
     patterns: [usize; 27],
     longest: u32,
     depths: DepthCounts,
+    blocks: BlockCounts,
 }
 
 /// The refusals that an operation can meet.
@@ -81,6 +83,7 @@ impl Counts {
             self.edges[operation][edge as usize] += 1;
         }
         self.depths.note(request, answer);
+        self.blocks.note(request, answer);
         match request {
             Request::Step(table, step) => {
                 match answer.refusal {
@@ -88,7 +91,7 @@ impl Counts {
                     None => self.rules[operation][rule_of(*step)] += 1,
                 }
                 let asked = BY_FIRST_TWO.iter().position(|&rule| rule == step.rule);
-                let gate = table.network().ok().and_then(|network| network.gate(usize::from(step.gate)));
+                let gate = table.network().ok().and_then(|network| network.edges(usize::from(step.gate)));
                 if let (Some(asked), Some(gate), None | Some(9)) =
                     (asked, gate, answer.refusal.map(|refusal| refusal.number))
                 {
@@ -108,7 +111,7 @@ impl Counts {
             }
             Request::Rm3(table, _) if answer.refusal.is_none() => {
                 for gate in table.network().iter().flat_map(|network| &network.gates) {
-                    let [first, second, third] = gate.map(|edge| class(edge) as usize);
+                    let [first, second, third] = gate.edges.map(|edge| class(edge) as usize);
                     self.patterns[9 * first + 3 * second + third] += 1;
                 }
             }
@@ -158,6 +161,7 @@ impl Counts {
                 lines.push("never met: one of the 27 RM3 patterns".to_string());
             }
             lines.extend(self.depths.never_met(operation));
+            lines.extend(self.blocks.never_met(operation));
         }
         lines
     }
@@ -204,6 +208,7 @@ impl Counts {
             lines.push(format!("RM3 patterns: {met} of 27"));
         }
         lines.extend(self.depths.report(&asked));
+        lines.extend(self.blocks.report(&asked));
         lines.join("\n")
     }
 }

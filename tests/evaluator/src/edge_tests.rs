@@ -3,36 +3,20 @@
 
 use crate::answer::{answer, Answer};
 use crate::cases::Dealer;
-use crate::follow::Follow;
 use crate::request::{operations, Request};
-use crate::stored::Stored;
-use crate::table::{census, records, Edge, Record, Refusal};
+use crate::table::{block_of, census, kind_of, Edge, Record, Refusal};
 use crate::tests::{against, GATE};
 use std::cmp::Ordering;
 use std::collections::BTreeMap;
-
-/// The records of the request's table, as far as the buffer has them.
-fn records_of(request: &Request) -> Vec<Record> {
-    match request {
-        Request::Check(table)
-        | Request::Evaluate(table, _)
-        | Request::Report(table)
-        | Request::Step(table, _)
-        | Request::Script(table, _)
-        | Request::Stored(Stored { table, .. })
-        | Request::Follow(Follow { table, .. })
-        | Request::Rm3(table, _) => records(&table.buffer[..table.buffer.len().min(table.used as usize)]),
-        Request::ReadingEvaluate(reading, _) | Request::ReadingReport(reading) => records(&reading.records),
-    }
-}
 
 /// How each edge of a gate or an output stands to the lowest node that it may not name: below it, at it or above it.
 fn standing(records: &[Record], place: usize) -> Vec<Ordering> {
     let [inputs, gates, _] = census(records);
     let ways = |edges: &[u16], bound: usize| edges.iter().map(|&edge| Edge::of(edge).node.cmp(&bound)).collect();
-    match records[place] {
-        [2, ref edges @ ..] => ways(edges, place + 1),
-        [3, edge, ..] => ways(&[edge], inputs + gates + 1),
+    let record = &records[place];
+    match kind_of(record) {
+        2 => ways(&record[1..], place + 1),
+        3 => ways(&record[1..2], inputs + gates + 1),
         _ => vec![],
     }
 }
@@ -56,19 +40,19 @@ fn marks(records: &[Record], refusal: Refusal) -> Vec<String> {
         .collect();
     let ways = ways.join(" ");
     if refusal.number == 4 {
-        return vec![format!("4 and {ways}, {} {}", record[2].min(1), record[3].min(1))];
+        return vec![format!("4 and {ways}, {} {} {}", block_of(&record).min(1), record[2].min(1), record[3].min(1))];
     }
     let others = |at: usize| bad_edges(records, at).first().is_some_and(|&edge| edge != refusal.edge);
-    let fields = |at: usize| records[at][0] == 3 && (records[at][2] != 0 || records[at][3] != 0);
+    let fields = |at: usize| kind_of(&records[at]) == 3 && (records[at][2] != 0 || records[at][3] != 0);
     let highest = [2 * place as u16, 2 * place as u16 + 1];
     let more = [
         ("in record 0", place == 0),
         ("in a record past 255", place > 255),
         ("before another edge", (place + 1..records.len()).any(others)),
         ("before a field", (place + 1..records.len()).any(fields)),
-        ("beside the highest node", record[0] == 2 && record[1..].iter().any(|edge| highest.contains(edge))),
+        ("beside the highest node", kind_of(&record) == 2 && record[1..].iter().any(|edge| highest.contains(edge))),
     ];
-    let kind = if record[0] == 2 { "gate" } else { "output" };
+    let kind = if kind_of(&record) == 2 { "gate" } else { "output" };
     let more = more.iter().filter(|mark| mark.1).map(|mark| mark.0.to_string());
     more.chain([format!("{kind} {ways}")]).collect()
 }
@@ -81,7 +65,7 @@ fn every_bad_edge_is_dealt() {
     let (mut edges, mut several, mut beside) = ([0; 4], 0, 0);
     for _ in 0..GATE {
         let request = dealer.deal().request;
-        let (records, refusal) = (records_of(&request), answer(&request).refusal);
+        let (records, refusal) = (request.records(), answer(&request).refusal);
         let Some(refusal) = refusal.filter(|refusal| refusal.number == 4 || refusal.number == 5) else {
             continue;
         };
@@ -102,7 +86,7 @@ fn every_bad_edge_is_dealt() {
     let gates = ways.iter().flat_map(|first| ways.iter().map(move |second| (first, second)));
     let gates =
         gates.flat_map(|(first, second)| ways.iter().map(move |third| format!("gate {first} {second} {third}")));
-    let outputs = ["output next", "output beyond", "4 and next, 1 0", "4 and next, 0 1", "4 and beyond, 1 1"];
+    let outputs = ["output next", "output beyond", "4 and next, 0 1 0", "4 and next, 0 0 1", "4 and beyond, 0 1 1"];
     let more =
         ["in record 0", "in a record past 255", "before another edge", "before a field", "beside the highest node"];
     let others = outputs.iter().chain(&more).map(|mark| mark.to_string());
@@ -131,20 +115,23 @@ fn another_edge_is_found_out() {
         |_, own| telling(own, |refusal| refusal.edge - 1),
         // The last bad edge of the record is told.
         |request, own| {
-            let records = records_of(request);
+            let records = request.records();
             telling(own, |refusal| *bad_edges(&records, refusal.record as usize).last().unwrap())
         },
         // The highest edge of a gate is told.
         |request, own| {
-            let records = records_of(request);
-            telling(own, |refusal| match records[refusal.record as usize] {
-                [2, ref edges @ ..] => 1 + (0..3).rev().max_by_key(|&place| edges[place]).unwrap() as u32,
-                _ => refusal.edge,
+            let records = request.records();
+            telling(own, |refusal| {
+                let record = &records[refusal.record as usize];
+                match kind_of(record) {
+                    2 => (1..4).rev().max_by_key(|&place| record[place]).unwrap() as u32,
+                    _ => refusal.edge,
+                }
             })
         },
         // An edge that names the gate itself is passed over where another is bad.
         |request, own| {
-            let records = records_of(request);
+            let records = request.records();
             telling(own, |refusal| {
                 let ways = standing(&records, refusal.record as usize);
                 ways.iter().position(|way| way.is_gt()).map_or(refusal.edge, |place| 1 + place as u32)
@@ -152,13 +139,13 @@ fn another_edge_is_found_out() {
         },
         // The edge is that of the last record with a bad one.
         |request, own| {
-            let records = records_of(request);
+            let records = request.records();
             telling(own, |_| (0..records.len()).rev().find_map(|at| bad_edges(&records, at).first().copied()).unwrap())
         },
         // 4 tells the bad edge of its record.
         |request, mut own| {
             if let Some(refusal) = own.refusal.as_mut().filter(|refusal| refusal.number == 4) {
-                let bad = bad_edges(&records_of(request), refusal.record as usize);
+                let bad = bad_edges(&request.records(), refusal.record as usize);
                 refusal.edge = bad.first().copied().unwrap_or(0);
             }
             own

@@ -6,7 +6,7 @@ use crate::cases::Dealer;
 use crate::request::{operations, Request, Table};
 use crate::sheet::{network, step};
 use crate::step::{apply, lay, FirstTwo, Step};
-use crate::table::{Edge, Gate, Network, Refusal, MOST_GATES};
+use crate::table::{Edge, Edges, Network, Refusal, MOST_GATES};
 use crate::tests::{against, GATE};
 use std::collections::BTreeMap;
 
@@ -58,7 +58,7 @@ fn fields_of_rules_2_and_10() {
 /// What is particular about a step whose number is 2 or 10, or misses one of them, told from its fields and the network.
 fn marks(table: &Table, network: &Network, step: Step) -> Vec<String> {
     let rule = step.rule;
-    let Some(gate) = network.gate(usize::from(step.gate)).filter(|_| step.a == 0 && step.b == 0) else {
+    let Some(gate) = network.edges(usize::from(step.gate)).filter(|_| step.a == 0 && step.b == 0) else {
         return fault(network, step).map(|fault| format!("{rule} 8: {fault}")).into_iter().collect();
     };
     let first_two = FirstTwo::of(gate);
@@ -109,7 +109,7 @@ fn sort(network: &Network, edge: Edge) -> &'static str {
 }
 
 /// The gate's edges, up to names and polarity.
-fn third([first, second, third]: Gate) -> &'static str {
+fn third([first, second, third]: Edges) -> &'static str {
     let is = |edge: Edge| [third == edge, third == edge.inverted_if(true)];
     match (FirstTwo::of([first, second, third]), is(first), is(second)) {
         (FirstTwo::Equal, [true, _], _) => "(x,x,x)",
@@ -128,7 +128,7 @@ fn third([first, second, third]: Gate) -> &'static str {
 
 /// Who reads the node, and how.
 fn readers(network: &Network, node: usize) -> Vec<&'static str> {
-    let gates = |inverted| network.gates.as_flattened().contains(&Edge { node, inverted });
+    let gates = |inverted| network.gates.iter().any(|gate| gate.edges.contains(&Edge { node, inverted }));
     let outputs = |inverted| network.outputs.contains(&Edge { node, inverted });
     let all = [
         ("read by a gate", gates(false)),
@@ -184,22 +184,21 @@ fn every_way_of_the_first_two_edges_is_dealt() {
 }
 
 /// The answer to a step on this table that would redirect its gate to the edge.
-fn redirected(table: &Table, step: Step, to: impl Fn(Gate) -> Edge) -> Answer {
+fn redirected(table: &Table, step: Step, to: impl Fn(Edges) -> Edge) -> Answer {
     let mut network = table.network().unwrap();
     let g = usize::from(step.gate);
-    let to = to(network.gate(g).unwrap());
-    let edges = network.gates.iter_mut().flatten().chain(&mut network.outputs);
-    edges.filter(|edge| edge.node == g).for_each(|edge| *edge = to.inverted_if(edge.inverted));
+    let to = to(network.edges(g).unwrap());
+    network.edges_mut().filter(|edge| edge.node == g).for_each(|edge| *edge = to.inverted_if(edge.inverted));
     let mut bytes = table.buffer.clone();
     let used = lay(&mut bytes, table.used, &network);
     Answer { refusal: None, numbers: vec![used], bytes }
 }
 
 /// What a program replies that also takes a step which is refused with 9.
-fn also(request: &Request, own: Answer, rule: u16, taken: fn(Gate) -> Option<Edge>) -> Answer {
+fn also(request: &Request, own: Answer, rule: u16, taken: fn(Edges) -> Option<Edge>) -> Answer {
     match request {
         Request::Step(table, step) if step.rule == rule && own.refusal == Some(Refusal::plain(9)) => {
-            let gate = table.network().unwrap().gate(usize::from(step.gate)).unwrap();
+            let gate = table.network().unwrap().edges(usize::from(step.gate)).unwrap();
             taken(gate).map_or(own, |to| redirected(table, *step, |_| to))
         }
         _ => own,
@@ -207,7 +206,7 @@ fn also(request: &Request, own: Answer, rule: u16, taken: fn(Gate) -> Option<Edg
 }
 
 /// What a program replies that redirects to another edge where the rule is taken.
-fn instead(request: &Request, own: Answer, rule: u16, to: fn(Gate) -> Edge) -> Answer {
+fn instead(request: &Request, own: Answer, rule: u16, to: fn(Edges) -> Edge) -> Answer {
     match request {
         Request::Step(table, step) if step.rule == rule && own.refusal.is_none() => redirected(table, *step, to),
         _ => own,

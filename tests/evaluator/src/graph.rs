@@ -2,15 +2,22 @@
 //! name. No name is given twice. A node's number is nothing but the place at which it stands, counted when it is asked for.
 
 use crate::step::Plan;
-use crate::table::{Edge, Gate, Network};
+use crate::table::{Edge, Edges, Gate, Network};
 
 /// A gate: its edges name nodes by name.
 #[derive(Clone)]
 struct Object {
     name: usize,
-    edges: Gate,
+    block: u8,
+    edges: Edges,
     /// The numbers by which inversion steps named it, one after another.
     inversions: Vec<usize>,
+}
+
+impl Object {
+    fn new(name: usize, gate: Gate) -> Object {
+        Object { name, block: gate.block, edges: gate.edges, inversions: Vec::new() }
+    }
 }
 
 #[derive(Clone)]
@@ -34,7 +41,7 @@ impl Graph {
     /// The network's nodes, whose first numbers are their names.
     pub fn of(network: &Network) -> Graph {
         let gates = (network.inputs + 1..).zip(&network.gates);
-        let gates = gates.map(|(name, &edges)| Object { name, edges, inversions: Vec::new() }).collect();
+        let gates = gates.map(|(name, &gate)| Object::new(name, gate)).collect();
         Graph { inputs: network.inputs, gates, outputs: network.outputs.clone(), fresh: network.nodes() }
     }
 
@@ -55,9 +62,9 @@ impl Graph {
                 self.each_edge_naming(name, |edge| *edge = to.inverted_if(edge.inverted));
             }
             Plan::Insert(new, edges) => {
-                let new = new.into_iter().map(|edges| self.by_name(edges)).zip(self.fresh..);
-                let new: Vec<Object> =
-                    new.map(|(edges, name)| Object { name, edges, inversions: Vec::new() }).collect();
+                let block = self.gates[at].block;
+                let new = new.into_iter().map(|edges| Gate { block, edges: self.by_name(edges) });
+                let new: Vec<Object> = (self.fresh..).zip(new).map(|(name, gate)| Object::new(name, gate)).collect();
                 self.gates[at].edges = self.by_name(edges);
                 self.fresh += new.len();
                 self.gates.splice(at..at, new);
@@ -117,7 +124,7 @@ impl Graph {
         let by_number = |edge: Edge| Edge { node: numbers[edge.node], ..edge };
         Network {
             inputs: self.inputs,
-            gates: self.gates.iter().map(|gate| gate.edges.map(by_number)).collect(),
+            gates: self.gates.iter().map(|gate| Gate { block: gate.block, edges: gate.edges.map(by_number) }).collect(),
             outputs: self.outputs.iter().map(|&edge| by_number(edge)).collect(),
         }
     }

@@ -2,6 +2,11 @@
 //! its own answer, worked out from the specification (docs/SPEC.md) alone.
 
 mod answer;
+#[cfg(test)]
+mod block_case_tests;
+mod block_counts;
+#[cfg(test)]
+mod block_tests;
 mod cases;
 mod counts;
 mod depth_counts;
@@ -68,7 +73,9 @@ More than half the scripts are stored ones, of the time before rule 10: PROGRAM 
 them what they did then.
 With 2000 requests or more a run fails also when a refusal or a rule of its operations, one of the edges that refusal 5
 carries, a refusal of a rule by operation 4 or 5, equal, opposite or other edges by rule 2 or 10, a stored script of each
-sort, or what may become of a followed gate was never met.
+sort, what may become of a followed gate, or one of the ways of blocks was never met: tables of block 0, of another and of
+several, refusals of a kind by each of its bytes, shares within a block and across two, insertions and helpers among blocks,
+rules with a high byte.
 The exit status is 0 where all replies are as expected, 1 where not, and 2 for bad usage.
 ";
 

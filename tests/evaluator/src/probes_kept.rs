@@ -4,7 +4,7 @@ use crate::answer::Answer;
 use crate::random::Random;
 use crate::request::Request;
 use crate::step::Step;
-use crate::table::{read, Edge};
+use crate::table::{read, Edge, Network};
 use crate::value::{some_assignments, values};
 
 /// What is wrong with the gates below that of a step, in a reply that was as expected: every step but sweep leaves them as they were.
@@ -19,7 +19,7 @@ pub fn lower_fault(request: &Request, answer: &Answer) -> Option<String> {
 }
 
 /// What is wrong with the places in a reply that was as expected: each that is not 0 is an edge to a gate of the table that is left
-/// there, with the value that the place's gate had in the first table, under every assignment that is tried.
+/// there, with the block that the place's gate had in the first table, and with its value under every assignment that is tried.
 pub fn probe_fault(request: &Request, answer: &Answer, random: &mut Random) -> Option<String> {
     let Request::Follow(follow) = request else {
         return None;
@@ -34,6 +34,10 @@ pub fn probe_fault(request: &Request, answer: &Answer, random: &mut Random) -> O
         (first.inputs + 1..first.nodes()).zip(edges).filter(|probe| probe.1 != Edge::of(0)).collect();
     if let Some((gate, edge)) = probes.iter().find(|(_, edge)| left.gate(edge.node).is_none()) {
         return Some(format!("the place of gate {gate} names node {}, which is no gate", edge.node));
+    }
+    let block = |network: &Network, gate| network.gate(gate).map(|gate| gate.block);
+    if let Some((gate, _)) = probes.iter().find(|(gate, edge)| block(&first, *gate) != block(&left, edge.node)) {
+        return Some(format!("the place of gate {gate} names a gate of another block"));
     }
     some_assignments(random, first.inputs).into_iter().find_map(|assignment| {
         let [before, after] = [&first, &left].map(|network| values(network, assignment));

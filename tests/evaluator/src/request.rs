@@ -4,7 +4,7 @@ use crate::follow::Follow;
 use crate::reading::Reading;
 use crate::step::Step;
 use crate::stored::Stored;
-use crate::table::{read, Network, Refusal};
+use crate::table::{read, records, Network, Record, Refusal};
 
 /// A lent buffer and the length of it that is said to be used.
 #[derive(Clone, Debug)]
@@ -17,6 +17,12 @@ impl Table {
     pub fn network(&self) -> Result<Network, Refusal> {
         read(&self.buffer, self.used, None)
     }
+}
+
+/// What a request is about.
+enum Subject<'a> {
+    Table(&'a Table),
+    Reading(&'a Reading),
 }
 
 #[derive(Clone, Debug)]
@@ -90,9 +96,7 @@ impl Request {
         }
     }
 
-    /// Everything after the operation's byte, in the order it is sent.
-    pub fn parts(&self) -> Vec<Part> {
-        let mut parts = Vec::new();
+    fn subject(&self) -> Subject<'_> {
         match self {
             Request::Check(table)
             | Request::Report(table)
@@ -101,11 +105,36 @@ impl Request {
             | Request::Script(table, _)
             | Request::Stored(Stored { table, .. })
             | Request::Follow(Follow { table, .. })
-            | Request::Rm3(table, _) => {
+            | Request::Rm3(table, _) => Subject::Table(table),
+            Request::ReadingEvaluate(reading, _) | Request::ReadingReport(reading) => Subject::Reading(reading),
+        }
+    }
+
+    /// The network that the request is about, or why there is none.
+    pub fn network(&self) -> Result<Network, Refusal> {
+        match self.subject() {
+            Subject::Table(table) => table.network(),
+            Subject::Reading(reading) => reading.network(),
+        }
+    }
+
+    /// The records that the request is about, as far as the buffer has them.
+    pub fn records(&self) -> Vec<Record> {
+        match self.subject() {
+            Subject::Table(Table { used, buffer }) => records(&buffer[..buffer.len().min(*used as usize)]),
+            Subject::Reading(reading) => records(&reading.records),
+        }
+    }
+
+    /// Everything after the operation's byte, in the order it is sent.
+    pub fn parts(&self) -> Vec<Part> {
+        let mut parts = Vec::new();
+        match self.subject() {
+            Subject::Table(table) => {
                 parts.push(number("used", table.used));
                 parts.extend(lent("table", &table.buffer));
             }
-            Request::ReadingEvaluate(reading, _) | Request::ReadingReport(reading) => {
+            Subject::Reading(reading) => {
                 let names = ["inputs", "gates", "outputs"];
                 let counts = names.into_iter().zip(reading.counts);
                 parts.extend(counts.map(|(name, count)| number(name, count)));

@@ -1,12 +1,19 @@
 //! RM3: the translation of a network, and a reader and evaluator of RM3 bytes.
 
-use crate::table::{record_bytes, records, Edge, Gate, Network};
+use crate::table::{block_of, kind_of, of_kind_and_block, record_bytes, records, Edge, Gate, Network};
+
+/// An operation, worth the majority of x, not y and z, with the number of the block that it belongs to.
+#[derive(Clone, Copy, PartialEq, Eq, Debug)]
+pub struct Operation {
+    pub block: u8,
+    pub operands: [usize; 3],
+}
 
 /// Operands: 0 false, 1 true, then the inputs from 2, then the operations.
 #[derive(Clone, PartialEq, Eq, Debug)]
 pub struct Rm3 {
     pub inputs: usize,
-    pub operations: Vec<[usize; 3]>,
+    pub operations: Vec<Operation>,
     pub outputs: Vec<usize>,
 }
 
@@ -27,37 +34,43 @@ pub fn class(edge: Edge) -> Class {
 
 impl Rm3 {
     /// Adds an operation and gives its operand number.
-    fn add(&mut self, operation: [usize; 3]) -> usize {
-        self.operations.push(operation);
+    fn add(&mut self, block: u8, operands: [usize; 3]) -> usize {
+        self.operations.push(Operation { block, operands });
         self.inputs + 1 + self.operations.len()
     }
 
-    /// Adds the helpers and the operation of one gate; `operand` holds the operand of each node below it.
+    /// Adds the helpers and the operation of one gate, which all belong to its block; `operand` holds the operand of each node
+    /// below it.
     fn add_gate(&mut self, gate: &Gate, operand: &[usize]) -> usize {
-        let first = |wanted| gate.iter().position(|&edge| class(edge) == wanted);
+        let first = |wanted| gate.edges.iter().position(|&edge| class(edge) == wanted);
         let middle = first(Class::Inverted).or(first(Class::Constant)).unwrap_or(1);
         let mut operands = [0; 3];
-        for (place, &edge) in gate.iter().enumerate() {
+        for (place, &edge) in gate.edges.iter().enumerate() {
             let node = operand[edge.node];
             operands[place] = match (class(edge), place == middle) {
                 (Class::Constant, is_middle) => usize::from(edge.inverted != is_middle),
                 (Class::Plain, false) | (Class::Inverted, true) => node,
-                (Class::Plain, true) | (Class::Inverted, false) => self.add([0, node, 1]),
+                (Class::Plain, true) | (Class::Inverted, false) => self.add(gate.block, [0, node, 1]),
             };
         }
         let others = [[1, 2], [0, 2], [0, 1]][middle];
-        self.add([operands[others[0]], operands[middle], operands[others[1]]])
+        self.add(gate.block, [operands[others[0]], operands[middle], operands[others[1]]])
     }
 
     /// The RM3 network in these bytes, or none where they are no RM3 table.
     pub fn read(bytes: &[u8]) -> Option<Rm3> {
         let records = records(bytes);
-        let of_kind = |kind: u16| records.iter().filter(move |record| record[0] == kind);
+        let of_kind = |kind| records.iter().filter(move |record| kind_of(record) == kind);
         let inputs = of_kind(1).count();
-        let operations: Vec<_> = of_kind(4).map(|&[_, x, y, z]| [x, y, z].map(usize::from)).collect();
+        let operation = |record| {
+            let &[_, x, y, z] = record;
+            Operation { block: block_of(record), operands: [x, y, z].map(usize::from) }
+        };
+        let operations: Vec<_> = of_kind(4).map(operation).collect();
         let outputs: Vec<_> = of_kind(3).map(|record| usize::from(record[1])).collect();
         let network = Rm3 { inputs, operations, outputs };
-        let lower = |(at, operation): (usize, &[usize; 3])| operation.iter().all(|&operand| operand < inputs + 2 + at);
+        let lower =
+            |(at, operation): (usize, &Operation)| operation.operands.iter().all(|&operand| operand < inputs + 2 + at);
         let bound = inputs + 2 + network.operations.len();
         let sound =
             network.operations.iter().enumerate().all(lower) && network.outputs.iter().all(|&operand| operand < bound);
@@ -65,7 +78,10 @@ impl Rm3 {
     }
 
     pub fn bytes(&self) -> Vec<u8> {
-        let operations = self.operations.iter().map(|&[x, y, z]| [4, x as u16, y as u16, z as u16]);
+        let operations = self.operations.iter().map(|operation| {
+            let [x, y, z] = operation.operands.map(|operand| operand as u16);
+            [of_kind_and_block(4, operation.block), x, y, z]
+        });
         let outputs = self.outputs.iter().map(|&operand| [3, operand as u16, 0, 0]);
         let records: Vec<_> = vec![[1, 0, 0, 0]; self.inputs].into_iter().chain(operations).chain(outputs).collect();
         record_bytes(&records)
@@ -75,7 +91,7 @@ impl Rm3 {
     pub fn values(&self, assignment: u32) -> u32 {
         let inputs = (0..self.inputs).map(|place| (assignment >> place) & 1 == 1);
         let mut values: Vec<bool> = [false, true].into_iter().chain(inputs).collect();
-        for &[x, y, z] in &self.operations {
+        for [x, y, z] in self.operations.iter().map(|operation| operation.operands) {
             let three = [values[x], !values[y], values[z]];
             values.push(three.into_iter().filter(|&value| value).count() >= 2);
         }
@@ -87,7 +103,7 @@ impl Rm3 {
     fn levels(&self) -> Vec<u32> {
         let mut levels = vec![0; self.inputs + 2];
         for operation in &self.operations {
-            levels.push(1 + operation.map(|operand| levels[operand]).into_iter().max().unwrap_or(0));
+            levels.push(1 + operation.operands.map(|operand| levels[operand]).into_iter().max().unwrap_or(0));
         }
         levels
     }
@@ -115,7 +131,7 @@ pub fn translate(network: &Network) -> Rm3 {
         let own = match class(edge) {
             Class::Constant => usize::from(edge.inverted),
             Class::Plain => operand[edge.node],
-            Class::Inverted => rm3.add([0, operand[edge.node], 1]),
+            Class::Inverted => rm3.add(0, [0, operand[edge.node], 1]),
         };
         rm3.outputs.push(own);
     }

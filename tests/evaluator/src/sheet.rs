@@ -3,14 +3,19 @@
 use crate::answer::{answer, Answer};
 use crate::reading::Reading;
 use crate::request::{Request, Table};
-use crate::rm3::{translate, Rm3};
+use crate::rm3::{translate, Operation, Rm3};
 use crate::script::{run, Progress};
 use crate::step::{apply, Step};
-use crate::table::{read, record_bytes, Edge, Network, Record, Refusal};
+use crate::table::{read, record_bytes, Edge, Gate, Network, Record, Refusal};
 use crate::value::{depth, evaluate, outputs, size};
 
+/// A gate of block 0.
+fn gate(edges: [u16; 3]) -> Gate {
+    Gate::of(edges.map(Edge::of))
+}
+
 pub fn network<const M: usize>(inputs: usize, gates: [[u16; 3]; M], outputs: &[u16]) -> Network {
-    let gates = gates.iter().map(|gate| gate.map(Edge::of)).collect();
+    let gates = gates.map(gate).to_vec();
     Network { inputs, gates, outputs: outputs.iter().map(|&edge| Edge::of(edge)).collect() }
 }
 
@@ -39,7 +44,8 @@ fn values(network: &Network) -> Vec<u32> {
 }
 
 fn rm3(inputs: usize, operations: &[[usize; 3]], outputs: &[usize]) -> Rm3 {
-    Rm3 { inputs, operations: operations.to_vec(), outputs: outputs.to_vec() }
+    let operations = operations.iter().map(|&operands| Operation { block: 0, operands }).collect();
+    Rm3 { inputs, operations, outputs: outputs.to_vec() }
 }
 
 fn adder() -> Network {
@@ -120,9 +126,9 @@ fn limits() {
 #[test]
 fn rule_3_at_the_limit() {
     let mut full = network(2, [[2, 4, 3], [3, 4, 6]], &[8]);
-    full.gates.resize(1023, [Edge::of(0); 3]);
+    full.gates.resize(1023, gate([0; 3]));
     assert_eq!(step(&full, 3, 4).map(|network| network.gates.len()), Ok(1024));
-    full.gates.resize(1024, [Edge::of(0); 3]);
+    full.gates.resize(1024, gate([0; 3]));
     assert_eq!(step(&full, 3, 4), Err(10));
     assert_eq!(step(&full, 3, 3), Err(9));
     assert_eq!(step(&full, 3, 2), Err(8));
@@ -214,7 +220,7 @@ fn voter_for_gates() {
     let third = [[0, 2, 4], [1, 2, 4], [29, 31, 2], [30, 30, 5]];
     let mut after = network(2, [[0, 2, 4], [1, 2, 4], [7, 9, 2]], &[37, 38, 6]);
     let copies = [first, second, third].into_iter().flatten().chain([[18, 26, 34], [10, 37, 9]]);
-    after.gates.extend(copies.map(|gate| gate.map(Edge::of)));
+    after.gates.extend(copies.map(gate));
     assert_eq!(values(&before), values(&after));
     assert_eq!(voter(&before, 6, 3, 4), Ok(after));
 }
@@ -230,10 +236,10 @@ fn voter_for_one_of_two_gates() {
     let second = [[2, 4, 6], [2, 4, 8], [2, 30, 1], [2, 30, 0], [32, 35, 0]];
     let third = [[2, 4, 6], [2, 4, 8], [4, 40, 1], [4, 40, 0], [42, 45, 0]];
     let copies = [second, third].into_iter().flatten().chain([[26, 36, 46]]);
-    assert_eq!(after.gates[9..], copies.map(|gate| gate.map(Edge::of)).collect::<Vec<_>>());
+    assert_eq!(after.gates[9..], copies.map(gate).collect::<Vec<_>>());
     let mut both = after.clone();
     for (from, to) in [(15, Edge::of(2)), (20, Edge::of(4))] {
-        let edges = both.gates.iter_mut().flatten().filter(|edge| edge.node == from);
+        let edges = both.edges_mut().filter(|edge| edge.node == from);
         edges.for_each(|edge| *edge = to.inverted_if(edge.inverted));
     }
     assert_eq!(outputs(&both, 0b0110), 0);

@@ -4,7 +4,7 @@
 //! then carried out on the graph, in which gates have names and no numbers.
 
 use crate::graph::Graph;
-use crate::table::{Edge, Gate, Network, Refusal, MOST_GATES};
+use crate::table::{Edge, Edges, Network, Refusal, MOST_GATES};
 use crate::voter;
 
 /// The rules are numbered from 1 up to this.
@@ -37,7 +37,7 @@ pub enum FirstTwo {
 }
 
 impl FirstTwo {
-    pub fn of([first, second, _]: Gate) -> FirstTwo {
+    pub fn of([first, second, _]: Edges) -> FirstTwo {
         match (first.node == second.node, first.inverted == second.inverted) {
             (true, true) => FirstTwo::Equal,
             (true, false) => FirstTwo::Opposite,
@@ -46,11 +46,11 @@ impl FirstTwo {
     }
 }
 
-/// What a step does to its gate g and to the edges that name g.
+/// What a step does to its gate g and to the edges that name g. Gates that are inserted belong to g's block.
 pub enum Plan {
-    Become(Gate),
+    Become(Edges),
     Redirect(Edge),
-    Insert(Vec<Gate>, Gate),
+    Insert(Vec<Edges>, Edges),
     Invert,
     Sweep,
 }
@@ -75,14 +75,14 @@ pub fn plan(network: &Network, step: Step) -> Option<Plan> {
         return Some(Plan::Sweep);
     }
     let gate = network.gate(usize::from(step.gate))?;
-    let [first, second, third] = gate;
-    let uninverted_gate = |edge: Edge| network.gate(edge.node).filter(|_| !edge.inverted);
+    let [first, second, third] = gate.edges;
+    let uninverted_gate = |edge: Edge| network.edges(edge.node).filter(|_| !edge.inverted);
     let new = Edge::plain(network.nodes());
     let next_new = Edge::plain(network.nodes() + 1);
     match step.rule {
         1 if step.a == 1 => Some(Plan::Become([second, first, third])),
         1 => Some(Plan::Become([third, second, first])),
-        2 => (FirstTwo::of(gate) == FirstTwo::Equal).then_some(Plan::Redirect(first)),
+        2 => (FirstTwo::of(gate.edges) == FirstTwo::Equal).then_some(Plan::Redirect(first)),
         3 => {
             let [y, u, z] = uninverted_gate(third)?;
             (u == second).then(|| Plan::Insert(vec![[y, u, first]], [z, u, new]))
@@ -103,7 +103,7 @@ pub fn plan(network: &Network, step: Step) -> Option<Plan> {
             (network.gate(below)? == gate).then(|| Plan::Redirect(Edge::plain(below)))
         }
         9 => voter::plan(network, usize::from(step.gate), usize::from(step.a), usize::from(step.b)),
-        10 => (FirstTwo::of(gate) == FirstTwo::Opposite).then_some(Plan::Redirect(third)),
+        10 => (FirstTwo::of(gate.edges) == FirstTwo::Opposite).then_some(Plan::Redirect(third)),
         _ => None,
     }
 }

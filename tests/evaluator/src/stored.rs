@@ -4,7 +4,7 @@
 use crate::request::Table;
 use crate::script::{run_by, Progress};
 use crate::step::{self, carried_out, fields_allowed, FirstTwo, Plan, Step};
-use crate::table::{records, Gate, Network, Refusal};
+use crate::table::{records, Edges, Network, Refusal};
 
 /// A stored script with the table that it ran on, and what it is converted to for that table.
 #[derive(Clone, Debug)]
@@ -15,7 +15,7 @@ pub struct Stored {
 }
 
 /// What rule 2 planned then, where the gate had its form.
-fn majority(gate: Gate) -> Option<Plan> {
+fn majority(gate: Edges) -> Option<Plan> {
     let [first, _, third] = gate;
     match FirstTwo::of(gate) {
         FirstTwo::Equal => Some(Plan::Redirect(first)),
@@ -26,7 +26,7 @@ fn majority(gate: Gate) -> Option<Plan> {
 
 /// The network after one step as it was then: rule 2 took both, and the rules ended with 9; else they are those of today.
 fn apply(network: &Network, step: Step, room: usize) -> Result<Network, Refusal> {
-    match (step.rule, network.gate(usize::from(step.gate))) {
+    match (step.rule, network.edges(usize::from(step.gate))) {
         (2, Some(gate)) if fields_allowed(network, step) => {
             let plan = majority(gate).ok_or(Refusal::plain(9))?;
             carried_out(network, usize::from(step.gate), plan, room)
@@ -38,7 +38,7 @@ fn apply(network: &Network, step: Step, room: usize) -> Result<Network, Refusal>
 
 /// Whether a step is one of rule 2 whose gate has opposite edges.
 fn meets_opposite(network: &Network, step: Step) -> bool {
-    step.rule == 2 && network.gate(usize::from(step.gate)).map(FirstTwo::of) == Some(FirstTwo::Opposite)
+    step.rule == 2 && network.edges(usize::from(step.gate)).map(FirstTwo::of) == Some(FirstTwo::Opposite)
 }
 
 /// The script as it is to be today, along its run on the table: a step 2 that was taken and met opposite edges becomes 10. A step

@@ -101,7 +101,7 @@ fn marks(stored: &Stored) -> Vec<String> {
     let changed = count(10) > 0;
     // A conversion that forgot the run, and looked at the first table alone, would do otherwise.
     let first = stored.table.network().ok();
-    let at_first = |fields: &Record| first.as_ref()?.gate(usize::from(fields[1])).map(FirstTwo::of);
+    let at_first = |fields: &Record| first.as_ref()?.edges(usize::from(fields[1])).map(FirstTwo::of);
     let by_run = |place: usize| (at_first(&steps[place]) == Some(FirstTwo::Opposite)) != (now[place][0] == 10);
     let opposite_if_run = |fields: &Record| fields[0] == 2 && at_first(fields) == Some(FirstTwo::Opposite);
     let all = [
@@ -194,7 +194,7 @@ fn a_slip_in_scripts_is_found_out() {
             scripted(request, own, |network, step, room| match (step.rule, apply(network, step, room)) {
                 (10, Ok(_)) => {
                     let g = usize::from(step.gate);
-                    carried_out(network, g, Plan::Redirect(network.gate(g).unwrap()[0]), room)
+                    carried_out(network, g, Plan::Redirect(network.edges(g).unwrap()[0]), room)
                 }
                 (_, result) => result,
             })

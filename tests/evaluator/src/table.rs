@@ -29,10 +29,40 @@ impl Edge {
     }
 }
 
-pub type Gate = [Edge; 3];
+/// The three edges of a gate.
+pub type Edges = [Edge; 3];
 
-/// A record as its four numbers: kind, e1, e2, e3.
+/// A gate with the number of the block that it belongs to.
+#[derive(Clone, Copy, PartialEq, Eq, Debug)]
+pub struct Gate {
+    pub block: u8,
+    pub edges: Edges,
+}
+
+impl Gate {
+    /// A gate of block 0.
+    pub fn of(edges: Edges) -> Gate {
+        Gate { block: 0, edges }
+    }
+}
+
+/// A record as its four numbers: kind and block, e1, e2, e3.
 pub type Record = [u16; 4];
+
+/// The record's kind, which is the low byte of its first number.
+pub fn kind_of(record: &Record) -> u8 {
+    record[0].to_le_bytes()[0]
+}
+
+/// The record's block number, which is the high byte of its first number.
+pub fn block_of(record: &Record) -> u8 {
+    record[0].to_le_bytes()[1]
+}
+
+/// The first number of a record.
+pub fn of_kind_and_block(kind: u8, block: u8) -> u16 {
+    u16::from_le_bytes([kind, block])
+}
 
 #[derive(Clone, PartialEq, Eq, Debug)]
 pub struct Network {
@@ -79,7 +109,7 @@ pub fn record_bytes(records: &[Record]) -> Vec<u8> {
 
 /// How many records of kinds 1, 2 and 3 there are.
 pub fn census(records: &[Record]) -> [usize; 3] {
-    [1, 2, 3].map(|kind| records.iter().filter(|record| record[0] == kind).count())
+    [1, 2, 3].map(|kind| records.iter().filter(|record| kind_of(record) == kind).count())
 }
 
 /// The network in the first `used` bytes; where counts are claimed (a reading), they must be those of the records.
@@ -91,10 +121,11 @@ pub fn read(buffer: &[u8], used: u32, claimed: Option<[u32; 3]>) -> Result<Netwo
     let records = records(&buffer[..used]);
     let mut lowest = 1;
     for (at, record) in records.iter().enumerate() {
-        if record[0] < lowest || record[0] > 3 {
+        let kind = kind_of(record);
+        if kind < lowest || kind > 3 {
             return Err(Refusal::at(2, at));
         }
-        lowest = record[0];
+        lowest = kind;
     }
     let counts = census(&records);
     let [inputs, gates, outputs] = counts;
@@ -103,11 +134,12 @@ pub fn read(buffer: &[u8], used: u32, claimed: Option<[u32; 3]>) -> Result<Netwo
         return Err(Refusal::plain(3));
     }
     let mut network = Network { inputs, gates: Vec::new(), outputs: Vec::new() };
-    for (at, &[kind, e1, e2, e3]) in records.iter().enumerate() {
+    for (at, record) in records.iter().enumerate() {
+        let (kind, block, &[_, e1, e2, e3]) = (kind_of(record), block_of(record), record);
         let (zeros, edges, bound) = match kind {
-            1 => (vec![e1, e2, e3], vec![], 0),
+            1 => (vec![u16::from(block), e1, e2, e3], vec![], 0),
             2 => (vec![], vec![e1, e2, e3], at + 1),
-            _ => (vec![e2, e3], vec![e1], inputs + gates + 1),
+            _ => (vec![u16::from(block), e2, e3], vec![e1], inputs + gates + 1),
         };
         if zeros.iter().any(|&field| field != 0) {
             return Err(Refusal::at(4, at));
@@ -117,7 +149,7 @@ pub fn read(buffer: &[u8], used: u32, claimed: Option<[u32; 3]>) -> Result<Netwo
         }
         match kind {
             1 => {}
-            2 => network.gates.push([e1, e2, e3].map(Edge::of)),
+            2 => network.gates.push(Gate { block, edges: [e1, e2, e3].map(Edge::of) }),
             _ => network.outputs.push(Edge::of(e1)),
         }
     }
@@ -139,13 +171,26 @@ impl Network {
         8 * (self.inputs + self.gates.len() + self.outputs.len())
     }
 
-    /// The three edges of a node that is a gate.
+    /// The node as a gate, where it is one.
     pub fn gate(&self, node: usize) -> Option<Gate> {
         self.gates.get(node.checked_sub(self.inputs + 1)?).copied()
     }
 
+    /// The three edges of a node that is a gate.
+    pub fn edges(&self, node: usize) -> Option<Edges> {
+        self.gate(node).map(|gate| gate.edges)
+    }
+
+    /// Every edge of the gates and the outputs, to be changed.
+    pub fn edges_mut(&mut self) -> impl Iterator<Item = &mut Edge> {
+        self.gates.iter_mut().flat_map(|gate| &mut gate.edges).chain(&mut self.outputs)
+    }
+
     pub fn records(&self) -> Vec<Record> {
-        let gates = self.gates.iter().map(|&[e1, e2, e3]| [2, e1.number(), e2.number(), e3.number()]);
+        let gates = self.gates.iter().map(|gate| {
+            let [e1, e2, e3] = gate.edges.map(Edge::number);
+            [of_kind_and_block(2, gate.block), e1, e2, e3]
+        });
         let outputs = self.outputs.iter().map(|edge| [3, edge.number(), 0, 0]);
         vec![[1, 0, 0, 0]; self.inputs].into_iter().chain(gates).chain(outputs).collect()
     }

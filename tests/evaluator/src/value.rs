@@ -18,8 +18,8 @@ impl Values<'_> {
         if let Some(value) = self.known[node] {
             return value;
         }
-        let value = match self.network.gate(node) {
-            Some(gate) => gate.map(|edge| self.edge(edge)).iter().filter(|&&value| value).count() >= 2,
+        let value = match self.network.edges(node) {
+            Some(edges) => edges.map(|edge| self.edge(edge)).iter().filter(|&&value| value).count() >= 2,
             None => node > 0 && (self.assignment >> (node - 1)) & 1 == 1,
         };
         self.known[node] = Some(value);
@@ -60,8 +60,8 @@ fn level(network: &Network, known: &mut [Option<u32>], node: usize) -> u32 {
     if let Some(level) = known[node] {
         return level;
     }
-    let level = match network.gate(node) {
-        Some(gate) => 1 + gate.map(|edge| level(network, known, edge.node)).into_iter().max().unwrap_or(0),
+    let level = match network.edges(node) {
+        Some(edges) => 1 + edges.map(|edge| level(network, known, edge.node)).into_iter().max().unwrap_or(0),
         None => 0,
     };
     known[node] = Some(level);

@@ -4,14 +4,14 @@
 //! then made in it alone.
 
 use crate::step::Plan;
-use crate::table::{Edge, Gate, Network};
+use crate::table::{Edge, Edges, Network};
 use crate::value::level_of;
 
 /// A copy of all gates from the first up to g.
 struct Copy {
     /// What each node up to g is called here: a gate by the copy's own name for it, any other node as everywhere.
     names: Vec<usize>,
-    gates: Vec<Gate>,
+    gates: Vec<Edges>,
 }
 
 impl Copy {
@@ -20,7 +20,7 @@ impl Copy {
         let copied = &network.gates[..g - network.inputs];
         let names = (0..=network.inputs).chain(first..first + copied.len()).collect();
         let mut copy = Copy { names, gates: Vec::new() };
-        copy.gates = copied.iter().map(|gate| gate.map(|edge| copy.own(edge))).collect();
+        copy.gates = copied.iter().map(|gate| gate.edges.map(|edge| copy.own(edge))).collect();
         copy
     }
 
@@ -39,7 +39,7 @@ impl Copy {
 }
 
 /// The gate's edges to a and to b, where it has both in the same polarity.
-pub fn pair(gate: Gate, a: usize, b: usize) -> Option<[Edge; 2]> {
+pub fn pair(gate: Edges, a: usize, b: usize) -> Option<[Edge; 2]> {
     let same = [false, true].map(|inverted| [a, b].map(|node| Edge { node, inverted }));
     same.into_iter().find(|pair| pair.iter().all(|edge| gate.contains(edge)))
 }
@@ -47,7 +47,7 @@ pub fn pair(gate: Gate, a: usize, b: usize) -> Option<[Edge; 2]> {
 /// What the step does, or none where no gate up to g has the pair or a stands higher than b.
 pub fn plan(network: &Network, g: usize, a: usize, b: usize) -> Option<Plan> {
     let mut gates = network.inputs + 1..=g;
-    let (c, [to_a, to_b]) = gates.find_map(|node| Some((node, pair(network.gate(node)?, a, b)?)))?;
+    let (c, [to_a, to_b]) = gates.find_map(|node| Some((node, pair(network.edges(node)?, a, b)?)))?;
     if level_of(network, a) > level_of(network, b) {
         return None;
     }

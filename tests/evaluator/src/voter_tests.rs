@@ -4,7 +4,7 @@ use crate::cases::{networks, Dealer};
 use crate::random::Random;
 use crate::request::{operations, Request, Table};
 use crate::step::{apply, Step};
-use crate::table::{Edge, Gate, Network, MOST_GATES};
+use crate::table::{Edge, Edges, Network, MOST_GATES};
 use crate::tests::GATE;
 use crate::value::{level_of, output_levels, outputs, size};
 use crate::voter::pair;
@@ -100,12 +100,12 @@ struct Voter<'a> {
 
 impl Voter<'_> {
     /// The gates up to the last that is wanted, each with its node.
-    fn gates(&self, last: usize) -> impl Iterator<Item = (usize, Gate)> + '_ {
-        (self.network.inputs + 1..=last).zip(self.network.gates.iter().copied())
+    fn gates(&self, last: usize) -> impl Iterator<Item = (usize, Edges)> + '_ {
+        (self.network.inputs + 1..=last).zip(self.network.gates.iter().map(|gate| gate.edges))
     }
 
     /// Whether the gate names both a and b and has them in one polarity nowhere.
-    fn is_mixed(&self, gate: Gate) -> bool {
+    fn is_mixed(&self, gate: Edges) -> bool {
         let names = |node| gate.iter().any(|edge| edge.node == node);
         names(self.a) && names(self.b) && pair(gate, self.a, self.b).is_none()
     }
@@ -159,7 +159,7 @@ impl Voter<'_> {
             [false, true] => "an input and a gate",
             _ => "two gates",
         });
-        let gate = network.gate(c).unwrap();
+        let gate = network.edges(c).unwrap();
         let count = |node, inverted| gate.iter().filter(|&&edge| edge == Edge { node, inverted }).count();
         marks.push(match [count(a, polarity), count(b, polarity), count(a, !polarity), count(b, !polarity)] {
             [2, ..] => "(a,a,b)",
@@ -168,7 +168,7 @@ impl Voter<'_> {
             [.., 1] => "(a,b,not b)",
             _ => "(a,b,x)",
         });
-        let inverted = |node| move |(_, gate): (usize, Gate)| gate.contains(&Edge { node, inverted: true });
+        let inverted = |node| move |(_, gate): (usize, Edges)| gate.contains(&Edge { node, inverted: true });
         let more = [
             ("polarity true", polarity),
             ("polarity false", !polarity),
@@ -185,7 +185,7 @@ impl Voter<'_> {
 fn reads(network: &Network, g: usize, node: usize) -> bool {
     let mut read = vec![g];
     for at in (node + 1..=g).rev() {
-        if let Some(gate) = network.gate(at).filter(|_| read.contains(&at)) {
+        if let Some(gate) = network.edges(at).filter(|_| read.contains(&at)) {
             read.extend(gate.map(|edge| edge.node));
         }
     }

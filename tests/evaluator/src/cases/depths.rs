@@ -5,7 +5,7 @@ use super::deck::{kind, Kind};
 use super::networks;
 use crate::random::Random;
 use crate::request::Request;
-use crate::table::{Edge, Network, MOST_GATES, MOST_OUTPUTS};
+use crate::table::{Edge, Gate, Network, MOST_GATES, MOST_OUTPUTS};
 
 /// Adds gates that read inputs and constants, and from the second on the one before: gate k of them stands on level k.
 fn add_ladder(random: &mut Random, network: &mut Network, height: usize) -> Vec<usize> {
@@ -15,7 +15,7 @@ fn add_ladder(random: &mut Random, network: &mut Network, height: usize) -> Vec<
         if node > first {
             gate[random.below(3)].node = node - 1;
         }
-        network.gates.push(gate);
+        network.gates.push(Gate::of(gate));
     }
     (first..first + height).collect()
 }
@@ -119,9 +119,10 @@ pub fn deepest_rm3(random: &mut Random, turn: usize) -> Network {
     let mut network = networks::sized(random, inputs, 0, 0);
     for _ in 0..[1, 2, 5, 30, MOST_GATES][turn % 5] {
         let [first, third] = [0; 2].map(|_| Edge::plain(random.between(1, inputs)));
-        network.gates.push([first, Edge::plain(network.nodes() - 1), third]);
+        network.gates.push(Gate::of([first, Edge::plain(network.nodes() - 1), third]));
     }
     network.outputs = vec![Edge { node: network.nodes() - 1, inverted: true }];
+    networks::deal_blocks(random, &mut network);
     network
 }
 
@@ -129,7 +130,8 @@ pub fn deepest_rm3(random: &mut Random, turn: usize) -> Network {
 pub fn kinds(request: fn(&mut Random, &Network) -> Request) -> Vec<Kind> {
     let ask = move |make: fn(&mut Random, usize) -> Network| {
         move |random: &mut Random, turn: usize| {
-            let network = make(random, turn);
+            let mut network = make(random, turn);
+            networks::deal_blocks(random, &mut network);
             request(random, &network)
         }
     };

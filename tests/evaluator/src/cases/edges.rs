@@ -19,7 +19,7 @@ fn edge(random: &mut Random, bound: usize, way: usize) -> u16 {
 }
 
 /// The place of a record of this kind, the first and the last among them often.
-fn some_place(random: &mut Random, records: &[Record], kind: u16) -> usize {
+fn some_place(random: &mut Random, records: &[Record], kind: u8) -> usize {
     let places = of_kind(records, kind);
     let any = random.pick(&places);
     random.pick(&[places[0], places[places.len() - 1], any])
@@ -29,7 +29,7 @@ fn some_place(random: &mut Random, records: &[Record], kind: u16) -> usize {
 fn spoil_gate(random: &mut Random, turn: usize, records: &mut [Record]) {
     let place = some_place(random, records, 2);
     let [first, second, third] = [turn / 9, turn / 3, turn].map(|turn| edge(random, place + 1, turn % 3));
-    records[place] = [2, first, second, third];
+    records[place] = [records[place][0], first, second, third];
 }
 
 /// Gives an output an edge of each way in turn, with fields that are zero every other time; if not, 4 wins over 5.

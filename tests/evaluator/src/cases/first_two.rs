@@ -102,7 +102,7 @@ fn two_edges(random: &mut Random, turn: usize) -> Request {
 
 /// One field, or both a and b, outside what the rules allow; the gate has the form every other time.
 fn fields(random: &mut Random, turn: usize) -> Request {
-    let shape = Shape::of(random.below(Shape::COUNT));
+    let shape = Shape::of(2 * random.below(Shape::COUNT / 2) + turn / 2 % 2);
     let mut plant = planted(random, if turn % 2 == 0 { shape.taken() } else { shape });
     let (inputs, past, g) = (plant.network.inputs as u16, plant.network.nodes() as u16, plant.step.gate);
     let fields = [
@@ -143,9 +143,9 @@ fn full_table(random: &mut Random, turn: usize) -> Request {
 
 pub fn kinds() -> Vec<Kind> {
     vec![
-        kind("rules 2 and 10 on two edges", 36, two_edges),
-        kind("rules 2 and 10 and their fields", 9, fields),
-        kind("rules 2 and 10 under another number", 6, other_number),
+        kind("rules 2 and 10 on two edges", 44, two_edges),
+        kind("rules 2 and 10 and their fields", 13, fields),
+        kind("rules 2 and 10 under another number", 10, other_number),
         kind("rules 2 and 10 on a full table", 3, full_table),
     ]
 }

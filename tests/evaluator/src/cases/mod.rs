@@ -1,6 +1,7 @@
 //! The case makers: every edge of the specification is made on purpose, in an order that the seed mixes.
 
 mod assignments;
+mod blocks;
 mod damage;
 mod deck;
 mod depths;
@@ -29,8 +30,10 @@ use deck::{kind, Kind};
 fn kinds(operation: u8) -> Vec<Kind> {
     let mut kinds = match operation {
         2 => assignments::kinds(Request::Evaluate),
-        4 => [steps::kinds(), first_two::kinds(), voters::kinds()].into_iter().flatten().collect(),
-        5 => [scripts::kinds(), stored::kinds()].into_iter().flatten().collect(),
+        4 => {
+            [steps::kinds(), first_two::kinds(), voters::kinds(), blocks::step_kinds()].into_iter().flatten().collect()
+        }
+        5 => [scripts::kinds(), stored::kinds(), blocks::script_kinds()].into_iter().flatten().collect(),
         6 => translations::kinds(),
         7 => readings::evaluate_kinds(),
         8 => readings::report_kinds(),
@@ -98,7 +101,7 @@ fn any_assignment(random: &mut Random) -> u32 {
 
 /// A step whose fields are often allowed for a small table.
 fn any_step(random: &mut Random) -> Step {
-    let rule = random.pick(&[0, 1, 2, 3, 4, 5, 6, 7, 8, 8, 8, 9, 10, 11, 65535]);
+    let rule = random.pick(&[0, 1, 2, 3, 4, 5, 6, 7, 8, 8, 8, 9, 10, 11, 257, 264, 65535]);
     let gate = if rule == 8 { 0 } else { random.below(12) };
     let a = if rule == 1 || rule == 9 { random.between(1, 2) } else { 0 };
     let b = match rule == 9 {

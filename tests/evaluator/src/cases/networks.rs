@@ -1,7 +1,7 @@
 //! Sound networks of every size and shape.
 
 use crate::random::Random;
-use crate::table::{Edge, Gate, Network, MOST_GATES, MOST_INPUTS, MOST_OUTPUTS};
+use crate::table::{Edge, Edges, Gate, Network, MOST_GATES, MOST_INPUTS, MOST_OUTPUTS};
 
 /// An edge to a node below `bound`: a constant, a recent node or any, and often inverted.
 pub fn edge(random: &mut Random, bound: usize) -> Edge {
@@ -13,8 +13,8 @@ pub fn edge(random: &mut Random, bound: usize) -> Edge {
     Edge { node, inverted: random.once_in(3) }
 }
 
-/// A gate that reads nodes below `bound`, now and then one node twice.
-pub fn gate(random: &mut Random, bound: usize) -> Gate {
+/// The edges of a gate that reads nodes below `bound`, now and then one node twice.
+pub fn gate(random: &mut Random, bound: usize) -> Edges {
     let mut gate = [0; 3].map(|_| edge(random, bound));
     if random.once_in(6) {
         let place = random.below(3);
@@ -27,7 +27,25 @@ pub fn gate(random: &mut Random, bound: usize) -> Gate {
 pub fn fill(random: &mut Random, network: &mut Network, gates: usize) {
     while network.gates.len() < gates {
         let bound = network.nodes();
-        network.gates.push(gate(random, bound));
+        network.gates.push(Gate::of(gate(random, bound)));
+    }
+}
+
+/// Gives the gates their blocks anew: 0 to all of them, one other to all, those of members one after the other, or any.
+pub fn deal_blocks(random: &mut Random, network: &mut Network) {
+    let way = random.below(8);
+    let mut block = 0;
+    for gate in &mut network.gates {
+        let any = random.bits() as u8;
+        block = match way {
+            0..=2 => 0,
+            3 => 1,
+            4 => 255,
+            5 if random.once_in(3) => any,
+            5 => block,
+            _ => random.pick(&[0, 1, 255, any]),
+        };
+        gate.block = block;
     }
 }
 
@@ -36,6 +54,7 @@ pub fn sized(random: &mut Random, inputs: usize, gates: usize, outputs: usize) -
     let mut network = Network { inputs, gates: Vec::new(), outputs: Vec::new() };
     fill(random, &mut network, gates);
     network.outputs = (0..outputs).map(|_| edge(random, 1 + inputs + gates)).collect();
+    deal_blocks(random, &mut network);
     network
 }
 
@@ -61,11 +80,11 @@ pub fn paired(random: &mut Random, inputs: usize, gates: usize, outputs: usize) 
         let earlier = random.below(at.max(1));
         let [first, second] = match random.below(4) {
             0 => continue,
-            1 if at > 0 => [Edge::plain(inputs + 1 + earlier), network.gates[earlier][random.pick(&[0, 2])]],
-            _ => [network.gates[at][0]; 2],
+            1 if at > 0 => [Edge::plain(inputs + 1 + earlier), network.gates[earlier].edges[random.pick(&[0, 2])]],
+            _ => [network.gates[at].edges[0]; 2],
         };
-        network.gates[at][0] = first.inverted_if(inverted[0]);
-        network.gates[at][1] = second.inverted_if(inverted[1]);
+        network.gates[at].edges[0] = first.inverted_if(inverted[0]);
+        network.gates[at].edges[1] = second.inverted_if(inverted[1]);
     }
     network
 }
@@ -77,7 +96,7 @@ pub fn chain(random: &mut Random, inputs: usize, gates: usize, outputs: usize) -
     let (steady, always) = (random.once_in(2), random.below(3));
     for at in 1..gates {
         let place = if steady { always } else { random.below(3) };
-        network.gates[at][place].node = inputs + at;
+        network.gates[at].edges[place].node = inputs + at;
     }
     network.outputs[0].node = inputs + gates;
     network

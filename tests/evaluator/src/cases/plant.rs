@@ -5,7 +5,7 @@ use super::{lent, networks};
 use crate::random::Random;
 use crate::request::Request;
 use crate::step::Step;
-use crate::table::{Edge, Gate, Network};
+use crate::table::{Edge, Edges, Gate, Network};
 
 /// A network with a place for one rule: the step that is accepted there, and the nodes of the gates that make the
 /// rule's form, g last.
@@ -27,12 +27,21 @@ impl Plant {
         plant
     }
 
-    /// Names g in the step, and adds its readers: so many gates, and outputs.
+    /// Names g in the step, adds its readers, so many gates, and outputs, and deals the blocks.
     pub fn finish(&mut self, random: &mut Random, readers: usize) {
         if self.step.rule != 8 {
             self.step.gate = self.g() as u16;
         }
         self.add_readers(random, readers);
+        networks::deal_blocks(random, &mut self.network);
+        if self.step.rule == 7 {
+            let block = self.gate_mut(self.g()).block;
+            self.gate_mut(usize::from(self.step.a)).block = block;
+        }
+    }
+
+    pub fn gate_mut(&mut self, node: usize) -> &mut Gate {
+        &mut self.network.gates[node - self.network.inputs - 1]
     }
 
     /// Any edge that the next gate may have.
@@ -41,9 +50,9 @@ impl Plant {
     }
 
     /// Adds a gate of the form and gives it as an edge.
-    pub fn add(&mut self, gate: Gate) -> Edge {
+    pub fn add(&mut self, edges: Edges) -> Edge {
         let node = self.network.nodes();
-        self.network.gates.push(gate);
+        self.network.gates.push(Gate::of(edges));
         self.form.push(node);
         Edge::plain(node)
     }
@@ -124,7 +133,7 @@ impl Plant {
         };
         for _ in 0..gates {
             let gate = networks::gate(random, self.network.nodes());
-            self.network.gates.push(gate.map(|edge| reading(random, edge)));
+            self.network.gates.push(Gate::of(gate.map(|edge| reading(random, edge))));
         }
         for _ in 0..random.between(1, 4) {
             let edge = self.edge(random);
@@ -135,8 +144,7 @@ impl Plant {
     /// Has those who read g read the constant instead.
     pub fn leave_unread(&mut self) {
         let g = self.g();
-        let edges = self.network.gates.iter_mut().flatten().chain(&mut self.network.outputs);
-        edges.filter(|edge| edge.node == g).for_each(|edge| edge.node = 0);
+        self.network.edges_mut().filter(|edge| edge.node == g).for_each(|edge| edge.node = 0);
     }
 
     pub fn request(self, random: &mut Random, behind: usize) -> Request {
@@ -146,11 +154,11 @@ impl Plant {
     /// Changes one edge of one gate of the form, by the variant's number: a near miss.
     pub fn spoil(&mut self, random: &mut Random, variant: usize) {
         let node = self.form[variant % self.form.len()];
-        let place = variant / self.form.len() % 3;
+        let (place, way) = (variant / self.form.len() % 3, variant / self.form.len() / 3 % 5);
         let any = networks::edge(random, node);
         let input = random.between(1, self.network.inputs);
-        let gate = &mut self.network.gates[node - self.network.inputs - 1];
-        match variant / self.form.len() / 3 % 5 {
+        let gate = &mut self.gate_mut(node).edges;
+        match way {
             0 => gate[place].inverted = !gate[place].inverted,
             1 => gate.swap(place, (place + 1) % 3),
             2 => gate[place].node = input,

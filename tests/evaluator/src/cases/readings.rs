@@ -1,8 +1,9 @@
-//! Readings: right counts, on sound records and on bad edges; each count wrong in each way; and wrong counts on records
+//! Readings: right counts, on sound records, on bad edges and on blocks; each count wrong in each way; and wrong counts on records
 //! that are wrong themselves.
 
+use super::damage::block_not_zero;
 use super::deck::{kind, Kind};
-use super::tables::bad_edges;
+use super::tables::{bad_edges, damaged};
 use super::{assignments, edges, lent, networks};
 use crate::random::Random;
 use crate::reading::Reading;
@@ -57,13 +58,14 @@ fn wrong_counts(random: &mut Random, turn: usize) -> Reading {
     reading
 }
 
-/// Damages the last record: a bad kind, a field not zero, a bad edge, or fewer than 8 bytes.
+/// Damages the last record: a bad kind, a field not zero, a bad edge, a block, or fewer than 8 bytes.
 fn damage(random: &mut Random, turn: usize, mut reading: Reading) -> Reading {
     let last = reading.records.len() - 8;
-    match turn % 4 {
+    match turn % 5 {
         0 => reading.records[last] = 7,
         1 => reading.records[last + 6] = 1,
         2 => reading.records[last + 3] = 0xEE,
+        3 => reading.records[last + 1] = random.pick(&[1, 255]),
         _ => reading.records.truncate(last + random.between(1, 7)),
     }
     reading
@@ -76,7 +78,7 @@ fn wrong_records(random: &mut Random, turn: usize) -> Reading {
 
 /// Wrong counts on damaged records: 1 and 2 win over 3, and 3 over 4 and 5.
 fn wrong_counts_and_records(random: &mut Random, turn: usize) -> Reading {
-    let reading = wrong_counts(random, turn / 4);
+    let reading = wrong_counts(random, turn / 5);
     damage(random, turn, reading)
 }
 
@@ -90,6 +92,10 @@ fn output_edge(random: &mut Random, turn: usize) -> Reading {
 
 fn several_edges(random: &mut Random, turn: usize) -> Reading {
     right(bad_edges(random, turn, edges::several))
+}
+
+fn block(random: &mut Random, turn: usize) -> Reading {
+    right(damaged(random, turn, block_not_zero))
 }
 
 fn cut_record(random: &mut Random, turn: usize) -> Reading {
@@ -117,11 +123,12 @@ fn kinds(request: fn(&mut Random, Reading) -> Request) -> Vec<Kind> {
     vec![
         kind("reading with right counts", 6, ask(|random, _| small(random))),
         kind("reading with wrong counts", 12, ask(wrong_counts)),
-        kind("reading with right counts and wrong records", 4, ask(wrong_records)),
+        kind("reading with right counts and wrong records", 5, ask(wrong_records)),
         kind("reading with wrong counts and records", 8, ask(wrong_counts_and_records)),
-        kind("reading of bad edges of a gate", 9, ask(gate_edges)),
+        kind("reading of bad edges of a gate", 11, ask(gate_edges)),
         kind("reading of a bad edge of an output", 7, ask(output_edge)),
         kind("reading of bad edges of several records", 3, ask(several_edges)),
+        kind("reading of a block of an input or an output", 6, ask(block)),
         kind("reading of a cut record", 3, ask(cut_record)),
         kind("reading of no records", 1, ask(no_records)),
     ]

@@ -51,7 +51,7 @@ impl Draft {
         let most_copied = gates.min(room.min(MOST_GATES - gates) / 3);
         let start = random.below(gates);
         (0..24).map(|more| (start + more) % gates).filter(|&at| at < most_copied).find_map(|at| {
-            let mut edges = self.network.gates[at];
+            let mut edges = self.network.gates[at].edges;
             random.shuffle(&mut edges);
             let [a, b] = [edges[0].node.min(edges[1].node), edges[0].node.max(edges[1].node)];
             let g = self.network.inputs + random.between(at + 1, most_copied);
@@ -110,7 +110,7 @@ impl Draft {
 }
 
 /// A draft on a network with gates that read one another, in a buffer with some room.
-fn started(random: &mut Random) -> Draft {
+pub fn started(random: &mut Random) -> Draft {
     let (gates, outputs, behind) = (random.between(2, 12), random.between(1, 6), random.below(120));
     let network = networks::chain(random, 4, gates, outputs);
     Draft::new(random, network, behind)

@@ -11,10 +11,10 @@ use crate::table::{Edge, Network, MOST_GATES};
 /// The rules that insert one gate or two.
 const GROWING: [u16; 3] = [3, 4, 5];
 
-const RULES: usize = LAST_RULE as usize;
+pub const RULES: usize = LAST_RULE as usize;
 
 /// The rules in turn.
-fn any_rule(turn: usize) -> u16 {
+pub fn any_rule(turn: usize) -> u16 {
     1 + (turn % RULES) as u16
 }
 
@@ -47,7 +47,8 @@ fn share_a(random: &mut Random, turn: usize) -> Request {
     let mut plant = plant(random, 7, None);
     let g = plant.g();
     let above = plant.network.nodes();
-    plant.network.gates.push(plant.network.gates[g - plant.network.inputs - 1]);
+    let copy = *plant.gate_mut(g);
+    plant.network.gates.push(copy);
     let first_gate = plant.network.inputs + 1;
     let a = [g, above, first_gate - 1, 0, above + 1, first_gate, g - 1, 65535][turn % 8];
     plant.step.a = a as u16;
@@ -107,7 +108,7 @@ fn full_table(random: &mut Random, turn: usize) -> Request {
     let gates = MOST_GATES - turn / 3 % 3;
     let mut plant = plant(random, GROWING[turn % 3], Some(gates));
     match turn % 8 {
-        3 => plant.network.gates[plant.step.gate as usize - plant.network.inputs - 1] = [Edge::plain(0); 3],
+        3 => plant.gate_mut(plant.g()).edges = [Edge::plain(0); 3],
         7 => plant.step.b = 1,
         _ => {}
     }

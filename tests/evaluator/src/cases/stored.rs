@@ -64,7 +64,7 @@ fn two_edges(random: &mut Random, turn: usize) -> Request {
 fn stop(draft: &mut Draft, random: &mut Random, turn: usize) {
     let (inputs, past) = (draft.network.inputs as u16, draft.network.nodes() as u16);
     let other =
-        (inputs + 1..past).zip(&draft.network.gates).find(|(_, gate)| FirstTwo::of(**gate) == FirstTwo::Neither);
+        (inputs + 1..past).zip(&draft.network.gates).find(|(_, gate)| FirstTwo::of(gate.edges) == FirstTwo::Neither);
     let rule = random.pick(&[2, 10]);
     let taken = draft.fitting(random, rule).map_or(past - 1, |step| step.gate);
     draft.script.push(match turn % 12 {
@@ -73,7 +73,7 @@ fn stop(draft: &mut Draft, random: &mut Random, turn: usize) {
         3 => [2, taken, 0, 1],
         4 => [2, random.pick(&[0, inputs, past]), 0, 0],
         5 => [11, taken, 0, 0],
-        6 => [random.pick(&[0, 256 + 2, 256 + 10, 65535]), taken, 0, 0],
+        6 => [[256 + 10, 0, 256 + 2, 65535][turn / 12 % 4], taken, 0, 0],
         7 | 8 | 9 => match [4, 3].into_iter().find_map(|rule| draft.fitting(random, rule)) {
             Some(step) => step.fields(),
             None => [0; 4],
@@ -124,7 +124,7 @@ fn another_table(random: &mut Random, turn: usize) -> Request {
     let steps = random.between(1, 16);
     grow_some(&mut draft, random, steps);
     for gate in network.gates.iter_mut().filter(|_| turn % 3 == 0 || random.once_in(3)) {
-        gate[1] = gate[1].inverted_if(true);
+        gate.edges[1] = gate.edges[1].inverted_if(true);
     }
     draft.table = lent(random, &network, behind);
     stored(draft.request())

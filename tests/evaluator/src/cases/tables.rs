@@ -1,6 +1,6 @@
 //! Tables for every operation: sound ones, ones damaged in each listed way, and used lengths of all sorts.
 
-use super::damage::{bad_kind, disorder, edge_at_border, field_not_zero, Damage};
+use super::damage::{bad_kind, block_not_zero, disorder, edge_at_border, field_not_zero, Damage};
 use super::{edges, lent, networks};
 use crate::random::Random;
 use crate::request::Table;
@@ -16,13 +16,14 @@ pub const KINDS: &[(&str, usize, Make)] = &[
     ("table at exact limits", 2, at_limits),
     ("count past its limit", 3, past_limit),
     ("no output", 1, no_output),
-    ("bad kind", 3, |random, turn| damaged(random, turn, bad_kind)),
-    ("kind out of order", 2, |random, turn| damaged(random, turn, disorder)),
+    ("bad kind", 6, |random, turn| damaged(random, turn, bad_kind)),
+    ("kind out of order", 4, |random, turn| damaged(random, turn, disorder)),
     ("field not zero", 3, |random, turn| damaged(random, turn, field_not_zero)),
+    ("block of an input or an output", 8, |random, turn| damaged(random, turn, block_not_zero)),
     ("edge at the border", 5, |random, turn| damaged(random, turn, edge_at_border)),
-    ("bad edges of a gate", 7, |random, turn| bad_edges(random, turn, edges::gate)),
-    ("bad edge of an output", 4, |random, turn| bad_edges(random, turn, edges::output)),
-    ("bad edges of several records", 4, |random, turn| bad_edges(random, turn, edges::several)),
+    ("bad edges of a gate", 9, |random, turn| bad_edges(random, turn, edges::gate)),
+    ("bad edge of an output", 5, |random, turn| bad_edges(random, turn, edges::output)),
+    ("bad edges of several records", 6, |random, turn| bad_edges(random, turn, edges::several)),
     ("several faults", 7, several_faults),
     ("bad kind after a count past its limit", 1, bad_kind_past_limit),
     ("used length", 7, used_length),
@@ -92,7 +93,8 @@ fn no_output(random: &mut Random, turn: usize) -> Table {
     lend(random, &records)
 }
 
-fn damaged(random: &mut Random, turn: usize, damage: Damage) -> Table {
+/// A small table with damage of one sort.
+pub fn damaged(random: &mut Random, turn: usize, damage: Damage) -> Table {
     let (inputs, gates, outputs) = (random.between(1, 5), random.between(1, 6), random.between(1, 4));
     let mut records = networks::sized(random, inputs, gates, outputs).records();
     damage(random, turn, &mut records);
@@ -115,8 +117,9 @@ fn several_faults(random: &mut Random, _turn: usize) -> Table {
         _ => {}
     }
     let mut records = networks::sized(random, counts[0], counts[1], counts[2]).records();
-    let damages: [Damage; 6] = [field_not_zero, edge_at_border, field_not_zero, edge_at_border, disorder, bad_kind];
-    let kinds = if random.once_in(2) { 4 } else { damages.len() };
+    let damages: [Damage; 7] =
+        [field_not_zero, edge_at_border, block_not_zero, field_not_zero, edge_at_border, disorder, bad_kind];
+    let kinds = if random.once_in(2) { 5 } else { damages.len() };
     for _ in 0..random.between(2, 4) {
         let (damage, turn) = (random.below(kinds), random.below(60));
         damages[damage](random, turn, &mut records);
@@ -131,7 +134,8 @@ fn several_faults(random: &mut Random, _turn: usize) -> Table {
 fn bad_kind_past_limit(random: &mut Random, turn: usize) -> Table {
     let (inputs, gates, outputs) = PAST[turn % PAST.len()];
     let mut records = networks::sized(random, inputs, gates, outputs).records();
-    records.push([[9, 1, 0, 0], [1, 0, 0, 0], [2, 0, 0, 0], [0, 0, 0, 0]][turn % 4]);
+    records
+        .push([[9, 1, 0, 0], [1, 0, 0, 0], [2, 0, 0, 0], [0, 0, 0, 0], [0x0102, 0, 0, 0], [0x0300, 0, 0, 0]][turn % 6]);
     lend(random, &records)
 }
 
@@ -183,7 +187,7 @@ fn longest_part(random: &mut Random, turn: usize) -> Table {
     records.resize(LONGEST / 8, [3, 0, 0, 0]);
     if turn % 3 == 1 {
         let place = random.pick(&[LONGEST / 8 - 1, 5000, 8000]);
-        records[place][0] = random.pick(&[0, 1, 2, 4, 65535]);
+        records[place][0] = random.pick(&[0, 1, 2, 4, 0x0100, 0x0102, 65535]);
     }
     Table { used: LONGEST as u32, buffer: record_bytes(&records) }
 }

@@ -5,7 +5,7 @@ use super::{depths, lent, networks};
 use crate::random::Random;
 use crate::request::Request;
 use crate::rm3::translate;
-use crate::table::{Edge, Network, MOST_GATES, MOST_INPUTS, MOST_OUTPUTS};
+use crate::table::{Edge, Gate, Network, MOST_GATES, MOST_INPUTS, MOST_OUTPUTS};
 
 /// The network's RM3 request with an out buffer of `room` bytes more (or fewer) than its RM3 table.
 fn request(random: &mut Random, network: &Network, room: isize) -> Request {
@@ -27,7 +27,7 @@ fn add_pattern(random: &mut Random, network: &mut Network, pattern: usize) {
         0 => Edge { node: 0, inverted: random.once_in(2) },
         class => Edge { node: random.between(1, bound - 1), inverted: class == 2 },
     });
-    network.gates.push(gate);
+    network.gates.push(Gate::of(gate));
 }
 
 fn one_pattern(random: &mut Random, turn: usize) -> Request {
@@ -36,6 +36,7 @@ fn one_pattern(random: &mut Random, turn: usize) -> Request {
     add_pattern(random, &mut network, turn % 27);
     let last = network.nodes() - 1;
     network.outputs = vec![Edge { node: last, inverted: random.once_in(3) }];
+    networks::deal_blocks(random, &mut network);
     with_some_room(random, &network)
 }
 
@@ -48,6 +49,7 @@ fn all_patterns(random: &mut Random, _turn: usize) -> Request {
     patterns.into_iter().for_each(|pattern| add_pattern(random, &mut network, pattern));
     let nodes = inputs + 1..network.nodes();
     network.outputs = nodes.map(|node| Edge { node, inverted: random.once_in(4) }).collect();
+    networks::deal_blocks(random, &mut network);
     with_some_room(random, &network)
 }
 
@@ -74,6 +76,7 @@ fn largest(random: &mut Random, turn: usize) -> Request {
     let nodes = network.nodes();
     let inverted = |node| Edge { node, inverted: true };
     network.outputs = (0..MOST_OUTPUTS).map(|_| inverted(random.between(1, nodes - 1))).collect();
+    networks::deal_blocks(random, &mut network);
     request(random, &network, [0, -1, 500][turn % 3])
 }
 

@@ -59,8 +59,8 @@ impl Shape {
 
 /// Breaks the pair of a and b wherever one of the gates has it in one polarity.
 fn part(gates: &mut [Gate], a: usize, b: usize) {
-    for gate in gates.iter_mut().filter(|gate| pair(**gate, a, b).is_some()) {
-        gate.iter_mut().filter(|edge| edge.node == a).for_each(|edge| edge.node = 0);
+    for gate in gates.iter_mut().filter(|gate| pair(gate.edges, a, b).is_some()) {
+        gate.edges.iter_mut().filter(|edge| edge.node == a).for_each(|edge| edge.node = 0);
     }
 }
 
@@ -96,10 +96,10 @@ fn add_nodes(plant: &mut Plant, random: &mut Random, nodes: Nodes) -> [usize; 2]
 fn add_readers(plant: &mut Plant, random: &mut Random, nodes: &[usize]) {
     for _ in 0..random.below(4) {
         let gate = networks::gate(random, plant.network.nodes());
-        plant.network.gates.push(gate.map(|edge| match random.once_in(2) {
+        plant.network.gates.push(Gate::of(gate.map(|edge| match random.once_in(2) {
             true => Edge { node: random.pick(nodes), inverted: random.once_in(2) },
             false => edge,
-        }));
+        })));
     }
 }
 
@@ -123,7 +123,7 @@ pub fn add_form(plant: &mut Plant, random: &mut Random, shape: Shape) {
     let second = [to_b, any, to_a].map(|edge| edge.inverted_if(other_polarity));
     if shape.seat == Seat::IsG {
         if shape.twice {
-            plant.network.gates.push(second);
+            plant.network.gates.push(Gate::of(second));
         }
         return;
     }
@@ -173,14 +173,15 @@ fn near_miss(random: &mut Random, turn: usize) -> Request {
     match turn % 5 {
         0 => part(&mut gates[..copied], a, b),
         1 => {
-            for gate in gates[..copied].iter_mut().filter(|gate| pair(**gate, a, b).is_some()) {
+            let edges = gates[..copied].iter_mut().map(|gate| &mut gate.edges);
+            for gate in edges.filter(|gate| pair(**gate, a, b).is_some()) {
                 gate.iter_mut().filter(|edge| edge.node == a).for_each(|edge| edge.inverted = shape.inverted);
                 gate.iter_mut().filter(|edge| edge.node == b).for_each(|edge| edge.inverted = !shape.inverted);
             }
         }
         2 => {
             part(&mut gates[..copied], a, b);
-            gates.push([b, 0, a].map(|node| Edge { node, inverted: shape.inverted }));
+            gates.push(Gate::of([b, 0, a].map(|node| Edge { node, inverted: shape.inverted })));
         }
         3 => {}
         _ => plant.spoil(random, turn / 5),
@@ -254,7 +255,7 @@ fn room(random: &mut Random, turn: usize) -> Request {
 
 pub fn kinds() -> Vec<Kind> {
     vec![
-        kind("rule 9 accepted", 27, accepted),
+        kind("rule 9 accepted", 34, accepted),
         kind("rule 9 near its form", 15, near_miss),
         kind("rule 9 and its fields", 10, fields),
         kind("rule 9 under another number", 3, other_number),
