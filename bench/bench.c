@@ -313,18 +313,24 @@ static void compare_refusal(const struct input *in, uint64_t refusal, uint64_t r
     }
 }
 
-/* Both sides accept, and answer the same; and so where the last gate's third edge names the gate itself, then its second too, then
-   all three. */
+/* Both sides accept, and answer the same, also where every gate is of block 255. They refuse alike where then the first output has a
+   block too, and where the last gate's third edge names the gate itself, then its second too, then all three. */
 static void compare(const struct input *in)
 {
-    static struct input bad;
+    static struct input other;
     unsigned node = in->inputs + in->gates, own = 2 * node;
     unsigned e1 = edge_of(in->table, node, 1), e2 = edge_of(in->table, node, 2);
     compare_refusal(in, 0, 0, 0);
-    memcpy(&bad, in, sizeof bad);
+    memcpy(&other, in, sizeof other);
+    for (unsigned i = in->inputs; i < node; i++)
+        other.table[RECORD * i + 1] = 255;
+    compare_refusal(&other, 0, 0, 0);
+    other.table[RECORD * node + 1] = 255;
+    compare_refusal(&other, 4, node, 0);
+    memcpy(&other, in, sizeof other);
     for (unsigned edge = 3; edge > 0; edge--) {
-        put_record(bad.table, node - 1, 2, edge > 1 ? e1 : own, edge > 2 ? e2 : own, own);
-        compare_refusal(&bad, 5, node - 1, edge);
+        put_record(other.table, node - 1, 2, edge > 1 ? e1 : own, edge > 2 ? e2 : own, own);
+        compare_refusal(&other, 5, node - 1, edge);
     }
 }
 
