@@ -9,6 +9,9 @@
  *
  * `used` is the table's own length, in bytes from the beginning of its buffer. It may be any number: what is wrong is refused.
  *
+ * A record of a table is 8 bytes (docs/SPEC.md, 2.1 and 6.1): its kind, its block, which is 0 in all but gates and operations, and three
+ * 16-bit numbers, low byte first. Steps keep the gates' blocks. An operation has that of its gate, and 0 where it was made for an output.
+ *
  * A reply begins with `refusal`, 0 for none, else 1 to 12 as README.md lists them, `record`, the record that refusals 2, 4 and 5
  * carry, counted from 0, else 0, and `edge`, which of that record's edges refusal 5 means, the first bad one: 1, 2 or 3, else 0.
  * Where a call is refused it has written nothing and all other numbers are 0; pulpgarnet_script and pulpgarnet_follow say what they
