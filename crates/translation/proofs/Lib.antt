@@ -18,6 +18,7 @@ pub mod Rm3Size  -- how many operations in all
 -- what a loop needs
 pub mod Rm3ByRecord  -- the translation, record by record
 pub mod Rm3Levels  -- levels, told from the majority table
+pub mod Rm3Modes  -- the modes have the same depth
 -- the patterns
 mod Every  -- a test of every entry is a test of each
 pub mod PatternTable  -- the 27 patterns are what the words say

@@ -9,11 +9,12 @@ use lib.ListN.{length}
 use Rattle.majority.specs.If.{if_then_else_}
 use Rattle.majority.specs.Table.{blank, recordAt, Below}
 use Rattle.translation.specs.Rm3.{operation}
-use Rattle.translation.specs.Translate.{Placed, classOf, middle, place, inOrder, gate3}
+use Rattle.translation.specs.Translate.{Draft, Placed, classOf, middle, place, inOrder, gate3}
 use Rattle.majority.specs.declared.Record.{Record}
+use Rattle.translation.specs.declared.Mode.{Mode}
 use Rattle.translation.proofs.Begins.{Begins, All, begins-then, begins-append, begins-last, all-more, length-more}
 use Rattle.translation.proofs.Rm3Worth.{Lower}
-use Rattle.translation.proofs.Rm3Place.{Serves, Fits, operation-fits, Blocked, blocked-none, Known, known-more, Placement, place-begins, place-blocks, placement}
+use Rattle.translation.proofs.Rm3Place.{Helper, helper-more, Serves, Fits, operation-fits, Blocked, blocked-none, Known, Placement, place-begins, place-blocks, placement}
 
 -- the middle place of a gate
 abbrev pub middleOf : Record → ℕ
@@ -51,82 +52,99 @@ in-order-block block mid x y z = go (eqb mid 1) (eqb mid 2)
     go false true = refl
     go false false = refl
 
-module _ (operands : List ℕ) (r : Record) (ts : List Record) where
+module _ (mode : Mode) (operands : List ℕ) (r : Record) (d : Draft) where
   abbrev p : Placed
-  p = place (r .block) (eqb (middleOf r) 1) operands (r .e1) ts
+  p = place mode (r .block) (eqb (middleOf r) 1) operands (r .e1) d
 
   abbrev q : Placed
-  q = place (r .block) (eqb (middleOf r) 2) operands (r .e2) (p .table)
+  q = place mode (r .block) (eqb (middleOf r) 2) operands (r .e2) (p .draft)
 
   abbrev s : Placed
-  s = place (r .block) (eqb (middleOf r) 3) operands (r .e3) (q .table)
+  s = place mode (r .block) (eqb (middleOf r) 3) operands (r .e3) (q .draft)
 
   abbrev made : Record
   made = inOrder (r .block) (middleOf r) (p .operand) (q .operand) (s .operand)
 
-  helpers-begin : Begins blank ts (s .table)
+  helpers-begin : Begins blank (d .table) (s .draft .table)
   helpers-begin =
-      begins-then (begins-then (place-begins _ operands (r .e1) ts _) (place-begins _ operands (r .e2) (p .table) _))
-      (place-begins _ operands (r .e3) (q .table) _)
+      begins-then (begins-then (place-begins mode _ operands (r .e1) d _) (place-begins mode _ operands (r .e2) (p .draft) _))
+      (place-begins mode _ operands (r .e3) (q .draft) _)
 
-  pub gate-begins : Begins blank ts (gate3 operands r ts)
+  pub gate-begins : Begins blank (d .table) (gate3 mode operands r d .table)
   unfolding gate3
-  gate-begins = begins-then helpers-begin (begins-append (s .table) (made ∷ []))
+  gate-begins = begins-then helpers-begin (begins-append (s .draft .table) (made ∷ []))
 
-  pub gate-longer : length ts < length (gate3 operands r ts)
+  pub gate-longer : length (d .table) < length (gate3 mode operands r d .table)
   unfolding gate3
-  gate-longer = omega (arith, helpers-begin .longer, length-more (s .table) made)
+  gate-longer = omega (arith, helpers-begin .longer, length-more (s .draft .table) made)
 
   -- what is put there has the gate's block
-  pub gate-blocks : All blank (Blocked (length ts) (r .block)) (gate3 operands r ts)
+  pub gate-blocks : All blank (Blocked (length (d .table)) (r .block)) (gate3 mode operands r d .table)
   unfolding gate3
   gate-blocks =
       all-more made
-      (place-blocks _ operands (r .e3) (q .table) (length ts) _
-      (place-blocks _ operands (r .e2) (p .table) (length ts) _
-      (place-blocks _ operands (r .e1) ts (length ts) _ (blocked-none ts (r .block)))))
+      (place-blocks mode _ operands (r .e3) (q .draft) (length (d .table)) _
+      (place-blocks mode _ operands (r .e2) (p .draft) (length (d .table)) _
+      (place-blocks mode _ operands (r .e1) d (length (d .table)) _ (blocked-none (d .table) (r .block)))))
       (λ l. in-order-block (r .block) (middleOf r) _ _ _)
 
-module _ {n : ℕ} {final operands : List ℕ} {ts : List Record} (r : Record) (known : Known final operands ts) (late : n ≤ length ts) (reads : Below (length operands) r) where
-  placed1 : Placement n final (eqb (middleOf r) 1) (r .e1) ts (p operands r ts)
-  placed1 = placement _ _ (r .e1) known late (reads .first)
+module _ {n : ℕ} {final operands : List ℕ} {d : Draft} (mode : Mode) (r : Record) (known : Known final operands d) (late : n ≤ length (d .table)) (reads : Below (length operands) r) where
+  abbrev p1 : Placed
+  p1 = p mode operands r d
 
-  placed2 : Placement n final (eqb (middleOf r) 2) (r .e2) (p operands r ts .table) (q operands r ts)
-  placed2 = placement _ _ (r .e2) (known-more (placed1 .begins) known) (omega (arith, placed1 .begins .longer)) (reads .second)
+  abbrev p2 : Placed
+  p2 = q mode operands r d
 
-  both : Begins blank ts (q operands r ts .table)
+  abbrev p3 : Placed
+  p3 = s mode operands r d
+
+  abbrev last : Record
+  last = made mode operands r d
+
+  placed1 : Placement n final operands (eqb (middleOf r) 1) (r .e1) d p1
+  placed1 = placement mode _ _ (r .e1) known late (reads .first)
+
+  placed2 : Placement n final operands (eqb (middleOf r) 2) (r .e2) (p1 .draft) p2
+  placed2 = placement mode _ _ (r .e2) (placed1 .known) (omega (arith, placed1 .begins .longer)) (reads .second)
+
+  both : Begins blank (d .table) (p2 .draft .table)
   both = begins-then (placed1 .begins) (placed2 .begins)
 
-  placed3 : Placement n final (eqb (middleOf r) 3) (r .e3) (q operands r ts .table) (s operands r ts)
-  placed3 = placement _ _ (r .e3) (known-more both known) (omega (arith, both .longer)) (reads .third)
+  placed3 : Placement n final operands (eqb (middleOf r) 3) (r .e3) (p2 .draft) p3
+  placed3 = placement mode _ _ (r .e3) (placed2 .known) (omega (arith, both .longer)) (reads .third)
 
-  whole-length : length (gate3 operands r ts) ≡ suc (length (s operands r ts .table))
+  whole-length : length (gate3 mode operands r d .table) ≡ suc (length (p3 .draft .table))
   unfolding gate3
-  whole-length = length-more (s operands r ts .table) (made operands r ts)
+  whole-length = length-more (p3 .draft .table) last
 
-  reads-lower : (made operands r ts .kind ≡ 4) × Lower (length (s operands r ts .table) + 2) (made operands r ts)
+  reads-lower : (last .kind ≡ 4) × Lower (length (p3 .draft .table) + 2) last
   reads-lower =
       in-order-lower (r .block) (middleOf r) _ _ _ _ (omega (arith, placed1 .low, placed2 .begins .longer, placed3 .begins .longer)) (omega (arith, placed2 .low, placed3 .begins .longer)) (placed3 .low)
 
-  pub gate-fits : All blank (Fits n) ts → All blank (Fits n) (gate3 operands r ts)
+  pub gate-fits : All blank (Fits n) (d .table) → All blank (Fits n) (gate3 mode operands r d .table)
   unfolding gate3
   gate-fits all =
-      all-more (made operands r ts) (placed3 .fits (placed2 .fits (placed1 .fits all)))
+      all-more last (placed3 .fits (placed2 .fits (placed1 .fits all)))
       (operation-fits (omega (arith, both .longer, placed3 .begins .longer)) (reads-lower .0) (reads-lower .1))
 
-  pub gate-made : (whole : List Record) → Begins blank (gate3 operands r ts) whole → Made final whole r (length (gate3 operands r ts) + 1)
+  -- each helper so far still stands in the table
+  pub gate-helpers : let next = gate3 mode operands r d in (k : ℕ) → (next .helpers k ≡ 0 → ⊥) → Helper final (next .table) k (next .helpers k)
+  unfolding gate3
+  gate-helpers k h = helper-more (begins-append (p3 .draft .table) (last ∷ [])) (placed3 .known .helpers k h)
+
+  pub gate-made : (whole : List Record) → Begins blank (gate3 mode operands r d .table) whole → Made final whole r (length (gate3 mode operands r d .table) + 1)
   unfolding gate3
   gate-made whole b =
-      let done = begins-then (begins-append (s operands r ts .table) (made operands r ts ∷ [])) b in
+      let done = begins-then (begins-append (p3 .draft .table) (last ∷ [])) b in
       record {
-        at = length (s operands r ts .table);
+        at = length (p3 .draft .table);
         numbered = omega (arith, whole-length);
         inside = omega (arith, whole-length, b .longer);
-        operand1 = p operands r ts .operand;
-        operand2 = q operands r ts .operand;
-        operand3 = s operands r ts .operand;
+        operand1 = p1 .operand;
+        operand2 = p2 .operand;
+        operand3 = p3 .operand;
         first = placed1 .serves whole (begins-then (begins-then (placed2 .begins) (placed3 .begins)) done);
         second = placed2 .serves whole (begins-then (placed3 .begins) done);
         third = placed3 .serves whole done;
-        is = begins-last (s operands r ts .table) (made operands r ts) b;
+        is = begins-last (p3 .draft .table) last b;
       }

@@ -11,6 +11,7 @@ use Rattle.translation.specs.Rm3.{outputValue3, outputLevel3, depth3}
 use Rattle.translation.specs.Translate.{translation, operations}
 use Rattle.translation.specs.Level3.{operandLevel}
 use Rattle.majority.specs.declared.Record.{Record}
+use Rattle.translation.specs.declared.Mode.{Mode}
 use Rattle.majority.proofs.Nodes.{equals}
 use Rattle.majority.proofs.Levels.{above-each, above-least, above-first-second, above-second-third, edge-level, highest-at-most, within-depth}
 use Rattle.majority.proofs.MajorityLaws.{majority-opposite, majority-first-second, majority-first-third}
@@ -46,23 +47,23 @@ simulates-levels = record {
   gates = λ x y z x′ y′ z′ p q s. let w = above-each x y z in above-least x′ y′ z′ _ (omega (arith, w .0)) (omega (arith, w .1)) (omega (arith, w .2));
 }
 
-module _ {n m o : ℕ} {rs : List Record} (formed : WellFormed n m o rs) where
+module _ {n m o : ℕ} {rs : List Record} (formed : WellFormed n m o rs) (mode : Mode) where
   -- each output keeps its value under each assignment
-  pub translated-outputs : (a j : ℕ) → j < o → outputValue3 a n (operations n m rs) (translation n m rs) j ≡ outputValue a n m rs j
+  pub translated-outputs : (a j : ℕ) → j < o → outputValue3 a n (operations mode n m rs) (translation mode n m rs) j ≡ outputValue a n m rs j
   unfolding outputValue outputValue3
-  translated-outputs a j h = sym (outputs-simulated (values a) _ _ (simulates-values a) formed j h)
+  translated-outputs a j h = sym (outputs-simulated (values a) _ _ (simulates-values a) formed mode j h)
 
   -- a node's operand stands at most twice as high as the node
-  pub operand-level : (k : ℕ) → k ≤ n + m → operandLevel n m rs k ≤ 2 * level rs k
+  pub operand-level : (k : ℕ) → k ≤ n + m → operandLevel mode n m rs k ≤ 2 * level rs k
   unfolding operandLevel
-  operand-level k h = nodes-simulated levels _ _ simulates-levels formed k h
+  operand-level k h = nodes-simulated levels _ _ simulates-levels formed mode k h
 
   -- and an output's, with its helper, one higher still
-  translated-level : (j : ℕ) → j < o → outputLevel3 n (operations n m rs) (translation n m rs) j ≤ 2 * outputLevel n m rs j + 1
+  translated-level : (j : ℕ) → j < o → outputLevel3 n (operations mode n m rs) (translation mode n m rs) j ≤ 2 * outputLevel n m rs j + 1
   unfolding outputLevel outputLevel3
-  translated-level j h = rw (edge-level (level rs) _) at (outputs-simulated levels _ _ simulates-levels formed j h)
+  translated-level j h = rw (edge-level (level rs) _) at (outputs-simulated levels _ _ simulates-levels formed mode j h)
 
   -- depth at most doubles, and one helper may stand above
-  pub translated-depth : depth3 n (operations n m rs) o (translation n m rs) ≤ 2 * depth n m o rs + 1
+  pub translated-depth : depth3 n (operations mode n m rs) o (translation mode n m rs) ≤ 2 * depth n m o rs + 1
   unfolding depth3
   translated-depth = highest-at-most _ o _ (λ j h. omega (arith, translated-level j h, within-depth n m o rs j h))

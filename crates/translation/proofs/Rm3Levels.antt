@@ -1,6 +1,6 @@
 -- Levels of a translation, told from the majority table: of the operand that serves an edge, and so of each node's operand and of each output's.
 use Prim.Native.Nat.{ℕ, zero, suc, _+_, _-_, _≤_, _<_}
-use mathlib.Core.Path.{_≡_, refl, sym, _∙_}
+use mathlib.Core.Path.{_≡_, refl, sym, ap, _∙_}
 use mathlib.Core.Bool.{Bool, true, false, not}
 use mathlib.Core.List.{List}
 use native.Mathlib.Omega.{arith}
@@ -16,6 +16,7 @@ use Rattle.translation.specs.Translate.{constant, plain, inverted, class
 use Rattle.translation.specs.Count3.{helperCount}
 use Rattle.translation.specs.Level3.{operandLevel, edgeLevel, gateLevel}
 use Rattle.majority.specs.declared.Record.{Record}
+use Rattle.translation.specs.declared.Mode.{Mode}
 use Rattle.majority.proofs.Levels.{above-first-second, above-second-third}
 use Rattle.translation.proofs.Rm3Worth.{false-worth, true-worth, input3-eq, operation-worth}
 use Rattle.translation.proofs.Rm3Place.{Serves, itself, direct, helped}
@@ -62,7 +63,8 @@ module _ {n p o : ℕ} {ts : List Record} (formed : WellFormed3 n p o ts) (opera
       opposite true = omega arith
       opposite false = omega arith
   serves-level t e x (direct h) = omega (arith, no-helper t e h)
-  serves-level t e x (helped some h i b l is) = operation-worth formed levels i 0 (getD operands (nodeOf e) 0) 1 l is ∙ helper-level (v (nodeOf e)) ∙ omega (arith, one-helper t e some h)
+  serves-level t e x (helped some h _ one) =
+      ap f (one .numbered) ∙ operation-worth formed levels (one .at) 0 (getD operands (nodeOf e) 0) 1 (one .inside) (one .is) ∙ helper-level (v (nodeOf e)) ∙ omega (arith, one-helper t e some h)
 
   -- whichever place is the middle
   in-order-level : (b mid j x y z : ℕ) → j < length ts → recordAt ts j ≡ inOrder b mid x y z → f (j + 2) ≡ above (f x) (f y) (f z)
@@ -79,17 +81,17 @@ module _ {n p o : ℕ} {ts : List Record} (formed : WellFormed3 n p o ts) (opera
       rw (made .numbered, ← serves-level _ _ _ (made .first), ← serves-level _ _ _ (made .second), ← serves-level _ _ _ (made .third))
       (in-order-level (r .block) (middleOf r) (made .at) _ _ _ (made .inside) (made .is))
 
-module _ {n m o : ℕ} {rs : List Record} (formed : WellFormed n m o rs) where
+module _ {n m o : ℕ} {rs : List Record} (formed : WellFormed n m o rs) (mode : Mode) where
   -- the operand of the constant and of an input stands at 0, that of a gate is its operation
-  pub early-level : (k : ℕ) → k ≤ n → operandLevel n m rs k ≡ 0
+  pub early-level : (k : ℕ) → k ≤ n → operandLevel mode n m rs k ≡ 0
   unfolding operandLevel
-  early-level zero h = rw (translated formed .constant) (false-worth levels (translation n m rs))
-  early-level (suc j) h = rw (translated formed .stands j (omega arith) .an-input h) (input3-eq (translated-formed formed) levels j h)
+  early-level zero h = rw (translated formed mode .constant) (false-worth levels (translation mode n m rs))
+  early-level (suc j) h = rw (translated formed mode .stands j (omega arith) .an-input h) (input3-eq (translated-formed formed mode) levels j h)
 
-  pub gate-level : (j : ℕ) → n ≤ j → j < n + m → operandLevel n m rs (suc j) ≡ gateLevel (operandLevel n m rs) (recordAt rs j)
+  pub gate-level : (j : ℕ) → n ≤ j → j < n + m → operandLevel mode n m rs (suc j) ≡ gateLevel (operandLevel mode n m rs) (recordAt rs j)
   unfolding operandLevel
-  gate-level j p q = made-level (translated-formed formed) (operandsOf n m rs) (translated formed .constant) (recordAt rs j) _ (translated formed .stands j q .a-gate p)
+  gate-level j p q = made-level (translated-formed formed mode) (operandsOf mode n m rs) (translated formed mode .constant) (recordAt rs j) _ (translated formed mode .stands j q .a-gate p)
 
-  pub output-level : (j : ℕ) → j < o → outputLevel3 n (operations n m rs) (translation n m rs) j ≡ edgeLevel (operandLevel n m rs) false (recordAt rs (n + m + j) .e1)
+  pub output-level : (j : ℕ) → j < o → outputLevel3 n (operations mode n m rs) (translation mode n m rs) j ≡ edgeLevel (operandLevel mode n m rs) false (recordAt rs (n + m + j) .e1)
   unfolding operandLevel outputLevel3
-  output-level j h = serves-level (translated-formed formed) (operandsOf n m rs) (translated formed .constant) false _ _ (translated formed .outputs j h .serves)
+  output-level j h = serves-level (translated-formed formed mode) (operandsOf mode n m rs) (translated formed mode .constant) false _ _ (translated formed mode .outputs j h .serves)

@@ -14,6 +14,7 @@ use Rattle.majority.specs.Node.{Meaning, edgeWorth, worth}
 use Rattle.translation.specs.Rm3.{operation, worth3, WellFormed3}
 use Rattle.translation.specs.Translate.{Class, isConstant, isInvertedClass, middle, inOrder, operandsOf, translation, operations}
 use Rattle.majority.specs.declared.Record.{Record}
+use Rattle.translation.specs.declared.Mode.{Mode}
 use Rattle.majority.proofs.Nodes.{node-induction, node-zero}
 use Rattle.majority.proofs.Formed.{input-eq, gate-eq}
 use Rattle.translation.proofs.Rm3Worth.{false-worth, true-worth, input3-eq, operation-worth}
@@ -77,7 +78,7 @@ module _ {A : Type 0} (𝓜 : Meaning A) (N E : A → A → Type 0) (𝓢 : Simu
   pub served : (isMiddle : Bool) (e x : ℕ) → Serves operands ts isMiddle e x → Simulated e → E (edgeWorth 𝓜 v e) (inPlace isMiddle x)
   served isMiddle e x (itself h) q = rw (constant-served e isMiddle h) (𝓢 .edges _ _ (𝓢 .same _))
   served isMiddle e x (direct h) q = direct-served e isMiddle h q
-  served isMiddle e x (helped some h i b l is) q = helper-served e i b isMiddle h l is q
+  served isMiddle e x (helped some h _ one) q = rw (one .numbered) (helper-served e (one .at) (one .block) isMiddle h (one .inside) (one .is) q)
 
   -- the operation, whichever of its places is the middle
   in-order : (r : Record) (i x y z : ℕ) (a b c : A) → i < length ts → recordAt ts i ≡ inOrder (r .block) (middleOf r) x y z
@@ -97,31 +98,31 @@ module _ {A : Type 0} (𝓜 : Meaning A) (N E : A → A → Type 0) (𝓢 : Simu
       rw (made .numbered)
       (in-order r (made .at) _ _ _ _ _ _ (made .inside) (made .is) (served _ _ _ (made .first) q1) (served _ _ _ (made .second) q2) (served _ _ _ (made .third) q3))
 
-module _ {A : Type 0} (𝓜 : Meaning A) (N E : A → A → Type 0) (𝓢 : Simulates 𝓜 N E) {n m o : ℕ} {rs : List Record} (formed : WellFormed n m o rs) where
+module _ {A : Type 0} (𝓜 : Meaning A) (N E : A → A → Type 0) (𝓢 : Simulates 𝓜 N E) {n m o : ℕ} {rs : List Record} (formed : WellFormed n m o rs) (mode : Mode) where
   -- each node and its operand
-  pub nodes-simulated : (k : ℕ) → k ≤ n + m → N (worth 𝓜 rs k) (worth3 𝓜 (translation n m rs) (getD (operandsOf n m rs) k 0))
+  pub nodes-simulated : (k : ℕ) → k ≤ n + m → N (worth 𝓜 rs k) (worth3 𝓜 (translation mode n m rs) (getD (operandsOf mode n m rs) k 0))
   nodes-simulated =
       node-induction _ (n + m)
-      (rw (node-zero 𝓜 rs, is .constant, false-worth 𝓜 (translation n m rs)) (𝓢 .same _))
+      (rw (node-zero 𝓜 rs, is .constant, false-worth 𝓜 (translation mode n m rs)) (𝓢 .same _))
       (λ j h below. step j h below (decLt j n))
     where
-      is : Translation n m o rs
-      is = translated formed
+      is : Translation mode n m o rs
+      is = translated formed mode
 
-      step : (j : ℕ) → j < n + m → ((k : ℕ) → k ≤ j → N (worth 𝓜 rs k) (worth3 𝓜 (translation n m rs) (getD (operandsOf n m rs) k 0)))
-          → Dec (j < n) → N (worth 𝓜 rs (suc j)) (worth3 𝓜 (translation n m rs) (getD (operandsOf n m rs) (suc j) 0))
+      step : (j : ℕ) → j < n + m → ((k : ℕ) → k ≤ j → N (worth 𝓜 rs k) (worth3 𝓜 (translation mode n m rs) (getD (operandsOf mode n m rs) k 0)))
+          → Dec (j < n) → N (worth 𝓜 rs (suc j)) (worth3 𝓜 (translation mode n m rs) (getD (operandsOf mode n m rs) (suc j) 0))
       step j h below (yes l) =
           let e : j + 1 ≡ suc j = omega arith in
-          rw (input-eq formed 𝓜 j l, is .stands j h .an-input l, input3-eq (translated-formed formed) 𝓜 j l, e) (𝓢 .same _)
+          rw (input-eq formed 𝓜 j l, is .stands j h .an-input l, input3-eq (translated-formed formed mode) 𝓜 j l, e) (𝓢 .same _)
       step j h below (no l) =
           let low = formed .gates j (omega arith) h .1 in
           rw (gate-eq formed 𝓜 j (omega arith) h)
-          (gate-simulated 𝓜 N E 𝓢 (translated-formed formed) (worth 𝓜 rs) (node-zero 𝓜 rs) (operandsOf n m rs) (recordAt rs j) _ (is .stands j h .a-gate (omega arith))
+          (gate-simulated 𝓜 N E 𝓢 (translated-formed formed mode) (worth 𝓜 rs) (node-zero 𝓜 rs) (operandsOf mode n m rs) (recordAt rs j) _ (is .stands j h .a-gate (omega arith))
           (below _ (omega (arith, low .first))) (below _ (omega (arith, low .second))) (below _ (omega (arith, low .third))))
 
   -- each output's edge and the operand that it names
   pub outputs-simulated : (j : ℕ) → j < o
-      → E (edgeWorth 𝓜 (worth 𝓜 rs) (recordAt rs (n + m + j) .e1)) (worth3 𝓜 (translation n m rs) (recordAt (translation n m rs) (n + operations n m rs + j) .e1))
+      → E (edgeWorth 𝓜 (worth 𝓜 rs) (recordAt rs (n + m + j) .e1)) (worth3 𝓜 (translation mode n m rs) (recordAt (translation mode n m rs) (n + operations mode n m rs + j) .e1))
   outputs-simulated j h =
-      served 𝓜 N E 𝓢 (translated-formed formed) (worth 𝓜 rs) (node-zero 𝓜 rs) (operandsOf n m rs) false _ _ (translated formed .outputs j h .serves)
+      served 𝓜 N E 𝓢 (translated-formed formed mode) (worth 𝓜 rs) (node-zero 𝓜 rs) (operandsOf mode n m rs) false _ _ (translated formed mode .outputs j h .serves)
       (nodes-simulated _ (formed .outputs (n + m + j) (omega arith) (omega arith) .1))

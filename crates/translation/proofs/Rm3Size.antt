@@ -1,4 +1,4 @@
--- How many operations a translation has: as many as its records add, at most three a gate and one an output.
+-- How many operations a translation has: at most as many as its records add, which is three a gate and one an output at most; made anew they are as many, and made once no more.
 use Prim.Native.Nat.{ℕ, zero, suc, _+_, _-_, _*_, _≤_, _<_}
 use mathlib.Core.Path.{_≡_, refl, sym}
 use mathlib.Core.Bool.{Bool, true, false}
@@ -9,12 +9,14 @@ use lib.ListN.{length, take, drop, length-drop}
 use lib.Seq.{getD-drop}
 use Rattle.majority.specs.If.{if_then_else_}
 use Rattle.majority.specs.Table.{blank, recordAt, WellFormed}
-use Rattle.translation.specs.Translate.{Class, constant, plain, inverted, classOf, needsHelper, middle, nodes3, parts3, operations}
+use Rattle.translation.specs.Translate.{Class, constant, plain, inverted, classOf, needsHelper, middle, start, allNodes3, parts3, operations}
 use Rattle.translation.specs.Count3.{helperCount, helpersOf, gateOperations, outputOperations, recordOperations, total}
 use Rattle.majority.specs.declared.Record.{Record}
+use Rattle.translation.specs.declared.Mode.{Mode}
+use Rattle.translation.specs.declared.Mode.the-variants.{Anew}
 use Rattle.majority.proofs.Formed.{kind-two}
 use Rattle.translation.proofs.Totals.{total-parts, total-next, total-agrees, total-at-most}
-use Rattle.translation.proofs.Rm3Count.{nodeRecords, nodes-length, outputs-length}
+use Rattle.translation.proofs.Rm3Count.{Adds, nodeRecords, nodes-add, outputs-add}
 
 helper-most : (isMiddle : Bool) (k : Class) → helperCount isMiddle k ≤ 1
 helper-most isMiddle k = go (needsHelper isMiddle k)
@@ -86,23 +88,31 @@ module _ {n m o : ℕ} {rs : List Record} (formed : WellFormed n m o rs) where
       (λ j h. rw (getD-drop (n + m) rs j blank) (sym (output-adds (n + m + j) (omega arith) (omega (arith, length-drop (n + m) rs, formed .whole)))))
 
   -- the operations are those that the records add
-  pub operations-counted : operations n m rs ≡ total recordOperations rs
+  operations-add : (mode : Mode) → Adds mode 0 (operations mode n m rs) (total recordOperations rs)
   unfolding operations parts3
-  operations-counted =
-      let done = nodes3 (0 ∷ []) [] (take (n + m) rs) in
-      omega (
-        arith,
-        nodes-length (0 ∷ []) [] (take (n + m) rs),
-        outputs-length (done .operands) (done .table) [] (drop (n + m) rs),
-        inputs-apart (n + m) (omega arith),
-        outputs-added,
-        total-parts recordOperations (n + m) rs,
-      )
+  operations-add mode =
+      let done = allNodes3 mode n m rs in
+      let nodes = nodes-add mode (0 ∷ []) start (take (n + m) rs) in
+      let outputs = outputs-add mode (done .operands) (done .draft) [] (drop (n + m) rs) in
+      let apart = inputs-apart (n + m) (omega arith) in
+      let parts = total-parts recordOperations (n + m) rs in
+      record {
+        most = omega (arith, nodes .most, outputs .most, apart, outputs-added, parts);
+        anew = λ a. omega (arith, nodes .anew a, outputs .anew a, apart, outputs-added, parts);
+      }
 
-  pub translated-size : operations n m rs ≤ 3 * m + o
-  translated-size =
+  -- all of them where helpers are made anew
+  pub anew-counted : operations Anew n m rs ≡ total recordOperations rs
+  anew-counted = omega (arith, operations-add Anew .anew refl)
+
+  -- in no mode are there more
+  pub anew-most : (mode : Mode) → operations mode n m rs ≤ operations Anew n m rs
+  anew-most mode = omega (arith, operations-add mode .most, anew-counted)
+
+  pub translated-size : (mode : Mode) → operations mode n m rs ≤ 3 * m + o
+  translated-size mode =
       let most = total-at-most recordOperations rs bound (λ j h. keeps j (omega (arith, formed .whole)) (decLt j n) (decLt j (n + m))) in
-      rw operations-counted (omega (arith, most, formed .whole))
+      omega (arith, operations-add mode .most, most, formed .whole)
     where
       bound : ℕ → ℕ
       bound j = 3 * (j - n - (j - (n + m))) + (j - (n + m))

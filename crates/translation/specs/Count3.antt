@@ -1,4 +1,4 @@
--- How many operations a translation has (SPEC 6.2), told from the records alone.
+-- How many operations a translation has at most (SPEC 6.2), told from the records alone: exactly so many where helpers are made anew.
 use Prim.Native.Nat.{ℕ, _+_}
 use mathlib.Core.Bool.{Bool, false}
 use mathlib.Core.List.{List, [], _∷_}

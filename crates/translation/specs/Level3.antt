@@ -10,10 +10,11 @@ use Rattle.translation.specs.Rm3.{level3}
 use Rattle.translation.specs.Translate.{classOf, middle, operandsOf, translation}
 use Rattle.translation.specs.Count3.{helperCount}
 use Rattle.majority.specs.declared.Record.{Record}
+use Rattle.translation.specs.declared.Mode.{Mode}
 
 -- the level of the operand of node k in the translation of a table of n inputs and m gates
-unfoldable pub operandLevel : ℕ → ℕ → List Record → ℕ → ℕ
-operandLevel n m rs k = level3 (translation n m rs) (getD (operandsOf n m rs) k 0)
+unfoldable pub operandLevel : Mode → ℕ → ℕ → List Record → ℕ → ℕ
+operandLevel mode n m rs k = level3 (translation mode n m rs) (getD (operandsOf mode n m rs) k 0)
 
 -- the level of the operand of the edge e, in the middle place or another, where that of node k has the level v k: a helper stands one higher
 abbrev pub edgeLevel : (ℕ → ℕ) → Bool → ℕ → ℕ

@@ -21,6 +21,12 @@ const PLAIN: usize = 1;
 
 const INVERTED: usize = 2;
 
+// Whether a node's helper is made anew at each need, or once, at the first, and used again.
+pub enum Mode {
+    Anew,
+    Once,
+}
+
 // The middle place, counted from 1, and whether the first, second and third edge need a helper.
 pub struct Pattern {
     pub middle: u8,
