@@ -1,11 +1,12 @@
 -- The pass that sets levels: what it has done so far, from gate to gate, and what the outputs then find there.
 use Prim.Native.Nat.{ℕ, suc, _+_, _≤_, _<_}
-use mathlib.Core.Path.{_≡_, sym, _∙_}
+use mathlib.Core.Path.{_≡_, refl, sym, _∙_}
 use mathlib.Core.Bool.{Bool, true, false}
 use mathlib.Core.Logic.{⊎-elim}
 use mathlib.Core.List.{List}
 use native.Mathlib.Nat.{eq-or-lt-of-le}
 use native.Mathlib.Omega.{arith}
+use mir.Val.{boolByte}
 use lib.Dec.{eqb}
 use lib.ListN.{set, length-set}
 use lib.Seq.{getD-set-same, getD-set-other}
@@ -14,6 +15,7 @@ use Rattle.majority.specs.Edge.{nodeOf}
 use Rattle.majority.specs.Table.{recordAt}
 use Rattle.majority.specs.declared.Record.{Record}
 use Rattle.majority.specs.declared.Counts.{Counts}
+use Rattle.translation.specs.declared.Mode.the-variants.{Once}
 use Rattle.majority.proofs.Levels.{above-each, level-at-most}
 use Rattle.translation.specs.Rm3.{outputLevel3}
 use Rattle.translation.specs.Translate.{translation, operations}
@@ -24,6 +26,11 @@ use Rattle.translation.proofs.Rm3Levels.{early-level, gate-level, output-level}
 use Rattle.tables.specs.Sound.{Sound, tableIn, Fresh}
 use Rattle.tables.proofs.Sound.{sound-accepted, sound-formed}
 use Rattle.rm3.specs.inner.Levelled.{levelIn, Levelled}
+
+-- a test as the number 0 or 1
+pub as-number : (t : Bool) → boolByte t ≡ (if t then 1 else 0)
+as-number true = refl
+as-number false = refl
 
 -- no edge stands higher than its gate
 pub edges-below : (v : ℕ → ℕ) (r : Record) (b : ℕ) → gateLevel v r ≤ b
@@ -41,13 +48,13 @@ module _ {bytes : List ℕ} {c : Counts} (sound : Sound bytes c) where
   nodes = c .inputs + c .gates
 
   -- no operand stands high
-  small : (k : ℕ) → k ≤ nodes → operandLevel (c .inputs) (c .gates) rs k ≤ 2112
+  small : (k : ℕ) → k ≤ nodes → operandLevel Once (c .inputs) (c .gates) rs k ≤ 2112
   small k h =
       let limits = sound-accepted sound .limits in
-      omega (arith, operand-level (sound-formed sound) k h, level-at-most (sound-formed sound) k (omega arith))
+      omega (arith, operand-level (sound-formed sound) Once k h, level-at-most (sound-formed sound) k (omega arith))
 
   pub levelled-start : {ls : List ℕ} → Fresh 0 ls → Levelled c rs (c .inputs) ls
-  levelled-start fresh = record { room = fresh .room; each = λ k h. fresh .all k ∙ sym (early-level (sound-formed sound) k h) }
+  levelled-start fresh = record { room = fresh .room; each = λ k h. fresh .all k ∙ sym (early-level (sound-formed sound) Once k h) }
 
   -- a gate more
   module _ {ls : List ℕ} {i : ℕ} (late : c .inputs ≤ i) (early : i < nodes) (so : Levelled c rs i ls) where
@@ -55,12 +62,12 @@ module _ {bytes : List ℕ} {c : Counts} (sound : Sound bytes c) where
     r = recordAt rs i
 
     -- the level as the code finds it
-    is : gateLevel (levelIn ls) r ≡ operandLevel (c .inputs) (c .gates) rs (suc i)
+    is : gateLevel (levelIn ls) r ≡ operandLevel Once (c .inputs) (c .gates) rs (suc i)
     unfolding gateLevel
     is =
         let low = sound-formed sound .gates i late early .1 in
         rw (so .each (nodeOf (r .e1)) (omega (arith, low .first)), so .each (nodeOf (r .e2)) (omega (arith, low .second)), so .each (nodeOf (r .e3)) (omega (arith, low .third)))
-        (sym (gate-level (sound-formed sound) i late early))
+        (sym (gate-level (sound-formed sound) Once i late early))
 
     pub level-small : gateLevel (levelIn ls) r ≤ 4000
     level-small = rw is (omega (arith, small (suc i) early))
@@ -88,9 +95,9 @@ module _ {bytes : List ℕ} {c : Counts} (sound : Sound bytes c) where
     pub output-small : (t : Bool) → levelIn ls (nodeOf e) + (if t then 1 else 0) ≤ 4000
     output-small t = rw (so .each (nodeOf e) names) (go t)
       where
-        go : (t : Bool) → operandLevel (c .inputs) (c .gates) rs (nodeOf e) + (if t then 1 else 0) ≤ 4000
+        go : (t : Bool) → operandLevel Once (c .inputs) (c .gates) rs (nodeOf e) + (if t then 1 else 0) ≤ 4000
         go true = omega (arith, small (nodeOf e) names)
         go false = omega (arith, small (nodeOf e) names)
 
-    pub output-found : edgeLevel (levelIn ls) false e ≡ outputLevel3 (c .inputs) (operations (c .inputs) (c .gates) rs) (translation (c .inputs) (c .gates) rs) j
-    output-found = rw (so .each (nodeOf e) names) (sym (output-level (sound-formed sound) j h))
+    pub output-found : edgeLevel (levelIn ls) false e ≡ outputLevel3 (c .inputs) (operations Once (c .inputs) (c .gates) rs) (translation Once (c .inputs) (c .gates) rs) j
+    output-found = rw (so .each (nodeOf e) names) (sym (output-level (sound-formed sound) Once j h))

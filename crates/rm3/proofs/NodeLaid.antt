@@ -6,6 +6,7 @@ use Rattle.majority.specs.Table.{input}
 use Rattle.majority.specs.Node.{byKind}
 use Rattle.translation.specs.Translate.{after, gate3}
 use Rattle.majority.specs.declared.Record.{Record}
+use Rattle.translation.specs.declared.Mode.{Mode}
 use Rattle.majority.proofs.Formed.{kind-two}
 use Rattle.tables.specs.Bytes.{putRecord}
 use Rattle.rm3.specs.inner.Laid.{Writes}
@@ -20,12 +21,12 @@ kind-other (suc zero) i g d p q = absurd (p refl)
 kind-other (suc (suc zero)) i g d p q = absurd (q refl)
 kind-other (suc (suc (suc k))) i g d p q = refl
 
-module _ (operands : List ℕ) (r : Record) {at : ℕ} {xs : List ℕ} where
-  pub input-writes : r .kind ≡ 1 → Writes (λ ts. after operands ts r) at (at + 1) xs (putRecord xs at input)
-  input-writes e = writes-same (λ ts. kind-one (r .kind) _ _ _ _ e) (writes-put input at xs)
+module _ (mode : Mode) (operands : List ℕ) (r : Record) {at : ℕ} {hs xs : List ℕ} where
+  pub input-writes : r .kind ≡ 1 → Writes (λ d. after mode operands d r) at (at + 1) hs hs xs (putRecord xs at input)
+  input-writes e = writes-same (λ d so. kind-one (r .kind) _ _ _ _ e) (writes-put input at hs xs)
 
-  pub node-writes : {n : ℕ} {xs′ : List ℕ} → r .kind ≡ 2 → Writes (gate3 operands r) at n xs xs′ → Writes (λ ts. after operands ts r) at n xs xs′
-  node-writes e w = writes-same (λ ts. kind-two (r .kind) _ _ _ _ e) w
+  pub node-writes : {n : ℕ} {hs′ xs′ : List ℕ} → r .kind ≡ 2 → Writes (gate3 mode operands r) at n hs hs′ xs xs′ → Writes (λ d. after mode operands d r) at n hs hs′ xs xs′
+  node-writes e w = writes-same (λ d so. kind-two (r .kind) _ _ _ _ e) w
 
-  pub other-writes : (r .kind ≡ 1 → ⊥) → (r .kind ≡ 2 → ⊥) → Writes (λ ts. after operands ts r) at at xs xs
-  other-writes p q = writes-same (λ ts. kind-other (r .kind) _ _ _ p q) (writes-none at xs)
+  pub other-writes : (r .kind ≡ 1 → ⊥) → (r .kind ≡ 2 → ⊥) → Writes (λ d. after mode operands d r) at at hs hs xs xs
+  other-writes p q = writes-same (λ d so. kind-other (r .kind) _ _ _ p q) (writes-none at hs xs)

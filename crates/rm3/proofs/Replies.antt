@@ -14,6 +14,7 @@ use Rattle.translation.specs.Block3.{Blocks3}
 use Rattle.refusals.specs.Reply.{Reply, accepted, refused, andThen}
 use Rattle.majority.specs.declared.Record.{Record}
 use Rattle.majority.specs.declared.Counts.{Counts}
+use Rattle.translation.specs.declared.Mode.{Mode}
 use Rattle.translation.proofs.Rm3Blocks.{translated-blocks}
 use Rattle.tables.specs.Bytes.{tableOf}
 use Rattle.tables.specs.Sound.{tableIn}
@@ -31,7 +32,7 @@ apart e = let z : _≡_ {A = ℕ} 0 1 = cc in omega arith
 same-length : {l k : ℕ} → _≡_ {A = Reply ℕ} (accepted k) (accepted l) → k ≡ l
 same-length e = cc
 
-module _ (xs : List ℕ) (used room l : ℕ) (is : accepted l ≡ translateOf xs used room) where
+module _ (mode : Mode) (xs : List ℕ) (used room l : ℕ) (is : accepted l ≡ translateOf mode xs used room) where
   in-room : (ts : List Record) → andThen (if ltb room (8 * length ts) then refused (why 11) else accepted ts) inBytes ≡ accepted l → l ≤ room
   in-room ts = go (ltb room (8 * length ts)) refl
     where
@@ -43,40 +44,40 @@ module _ (xs : List ℕ) (used room l : ℕ) (is : accepted l ≡ translateOf xs
   unfolding translateOf rm3Of
   reply-fits = go (checkOf xs used) (sym is)
     where
-      go : (k : Reply Counts) → andThen (andThen k (rm3In room (tableOf xs (used / 8)))) inBytes ≡ accepted l → l ≤ room
-      go (accepted c) e = in-room (translation (c .inputs) (c .gates) (tableOf xs (used / 8))) e
+      go : (k : Reply Counts) → andThen (andThen k (rm3In mode room (tableOf xs (used / 8)))) inBytes ≡ accepted l → l ≤ room
+      go (accepted c) e = in-room (translation mode (c .inputs) (c .gates) (tableOf xs (used / 8))) e
       go (refused w) e = absurd (apart e)
 
-module _ (xs : List ℕ) (used room : ℕ) (c : Counts) (checked : checkOf xs used ≡ accepted c) where
+module _ (mode : Mode) (xs : List ℕ) (used room : ℕ) (c : Counts) (checked : checkOf xs used ≡ accepted c) where
   abbrev ts : List Record
-  ts = translation (c .inputs) (c .gates) (tableIn xs c)
+  ts = translation mode (c .inputs) (c .gates) (tableIn xs c)
 
-  of-accepted : rm3Of xs used room ≡ rm3In room (tableIn xs c) c
+  of-accepted : rm3Of mode xs used room ≡ rm3In mode room (tableIn xs c) c
   unfolding rm3Of
   of-accepted = rw (checked, checked-table xs used c checked)
 
   -- the counts of the table are among the records of the reply's
-  pub reply-counts : (l : ℕ) → accepted l ≡ translateOf xs used room → c .inputs + c .outputs ≤ l / 8
+  pub reply-counts : (l : ℕ) → accepted l ≡ translateOf mode xs used room → c .inputs + c .outputs ≤ l / 8
   unfolding translateOf
   reply-counts l is = go (ltb room (8 * length ts)) (sym (is ∙ ap (λ (k : Reply (List Record)). andThen k inBytes) of-accepted))
     where
       go : (t : Bool) → andThen (if t then refused (why 11) else accepted ts) inBytes ≡ accepted l → c .inputs + c .outputs ≤ l / 8
       go true e = absurd (apart e)
-      go false e = omega (arith, same-length e, fitting-size (checked-sound xs used c checked))
+      go false e = omega (arith, same-length e, fitting-size mode (checked-sound xs used c checked))
 
   -- 11 is never said of a buffer of 25,344 bytes
-  pub room-enough : 25344 ≤ room → translateOf xs used room ≡ accepted (8 * length ts)
+  pub room-enough : 25344 ≤ room → translateOf mode xs used room ≡ accepted (8 * length ts)
   unfolding translateOf
   room-enough h =
       let sound = checked-sound xs used c checked in
-      rw (of-accepted, fitting sound room (omega (arith, fitting-small sound)))
+      rw (of-accepted, fitting mode sound room (omega (arith, fitting-small mode sound)))
 
 -- the records in the bytes that were written, up to the length replied, are the RM3 table
-module _ (xs : List ℕ) (used : ℕ) (ys : List ℕ) (l : ℕ) (c : Counts) (checked : checkOf xs used ≡ accepted c) (is : translateOf xs used (length ys) ≡ accepted l) where
+module _ (mode : Mode) (xs : List ℕ) (used : ℕ) (ys : List ℕ) (l : ℕ) (c : Counts) (checked : checkOf xs used ≡ accepted c) (is : translateOf mode xs used (length ys) ≡ accepted l) where
   abbrev made : List Record
-  made = translation (c .inputs) (c .gates) (tableOf xs (used / 8))
+  made = translation mode (c .inputs) (c .gates) (tableOf xs (used / 8))
 
-  pub reply-table : tableOf (translateBytes xs used ys) (l / 8) ≡ made
+  pub reply-table : tableOf (translateBytes mode xs used ys) (l / 8) ≡ made
   unfolding translateOf translateBytes rm3Of
   reply-table = rw checked (go (ltb (length ys) (8 * length made)) (rw checked at is))
     where
@@ -85,5 +86,5 @@ module _ (xs : List ℕ) (used : ℕ) (ys : List ℕ) (l : ℕ) (c : Counts) (ch
       go false e = let k : l / 8 ≡ length made = omega (arith, same-length e) in rw k (holding-table made ys)
 
   -- and so each of them has its block
-  pub reply-blocks : Blocks3 (c .inputs) (c .gates) (tableOf xs (used / 8)) (tableOf (translateBytes xs used ys) (l / 8))
-  reply-blocks = rw (reply-table, checked-table xs used c checked) (translated-blocks (sound-formed (checked-sound xs used c checked)))
+  pub reply-blocks : Blocks3 mode (c .inputs) (c .gates) (tableOf xs (used / 8)) (tableOf (translateBytes mode xs used ys) (l / 8))
+  reply-blocks = rw (reply-table, checked-table xs used c checked) (translated-blocks (sound-formed (checked-sound xs used c checked)) mode)

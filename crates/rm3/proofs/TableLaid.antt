@@ -1,20 +1,21 @@
 -- Tables laid in bytes: a record more at the end of the table or of the outputs, and the whole as an encoding.
-use Prim.Native.Nat.{ℕ, _+_, _-_, _*_, _≤_, _<_}
-use mathlib.Core.Path.{_≡_, sym, ap, _∙_}
+use Prim.Native.Nat.{ℕ, zero, suc, _+_, _-_, _*_, _≤_, _<_}
+use mathlib.Core.Path.{_≡_, refl, sym, ap, _∙_}
 use mathlib.Core.List.{List, [], _∷_, _++_}
 use native.Mathlib.Omega.{arith}
-use native.Mathlib.Decide.{decLt}
-use lib.ListN.{length, drop, length-append, List·getD-append}
-use lib.Seq.{drop-drop, ext-getD, getD-append-add}
-use Rattle.majority.specs.Table.{blank, recordAt}
-use Rattle.translation.specs.Translate.{Placed}
+use native.Mathlib.Decide.{decLt, ℕ-discrete}
+use borrow.Author.Tests.{eq-eqb, ne-eqb}
+use lib.ListN.{length, getD, take, drop, set, length-set, length-append, List·getD-append}
+use lib.Seq.{take-suc, length-take-le, getD-set-same, getD-set-other, drop-drop, ext-getD, getD-append-add}
+use Rattle.majority.specs.Table.{blank, output, recordAt}
+use Rattle.translation.specs.Translate.{Draft, more, noted, Placed}
 use Rattle.majority.specs.declared.Record.{Record}
 use Rattle.translation.proofs.Begins.{all-more, length-more}
 use Rattle.tables.specs.Bytes.{recordIn, tableOf, encode, putRecord}
 use Rattle.tables.proofs.Decoded.{length-table, table-at}
 use Rattle.tables.proofs.Encoded.{Bytes, as-encoded}
 use Rattle.tables.proofs.Put.{put-length, put-same, put-other, put-rest}
-use Rattle.rm3.specs.inner.Laid.{Laid, Grows, Writes, Places}
+use Rattle.rm3.specs.inner.Laid.{Laid, Grows, helperIn, Drafted, Writes, Places, outputsPut}
 
 -- a record more, of records that are read from the bytes at `from` on
 more-read : (from : ℕ) (ts : List Record) (r : Record) (xs xs′ : List ℕ)
@@ -79,27 +80,53 @@ laid-whole {ys} {xs} {first} {ts} {os} bytes here room so =
         rw there at is ∙ sym (rw past at (getD-append-add ts os k blank))
 
 -- nothing more, one record more, and the same as another way to make it
-pub writes-none : (at : ℕ) (xs : List ℕ) → Writes (λ ts. ts) at at xs xs
-writes-none at xs = record { size = λ ts e. e; grows = λ ts e. grows-same ts xs }
+pub writes-none : (at : ℕ) (hs xs : List ℕ) → Writes (λ d. d) at at hs hs xs xs
+writes-none at hs xs = record { drafts = λ d so. so; grows = λ d so. grows-same (d .table) xs }
 
-pub writes-put : (r : Record) (at : ℕ) (xs : List ℕ) → Writes (λ ts. ts ++ r ∷ []) at (at + 1) xs (putRecord xs at r)
-writes-put r at xs = record { size = λ ts e. rw (length-more ts r, e) (omega arith); grows = λ ts e. rw (← e) (grows-put ts r xs) }
+drafted-more : {at : ℕ} {hs : List ℕ} (d : Draft) (r : Record) → Drafted at hs d → Drafted (at + 1) hs (more d r)
+drafted-more d r so = record { here = rw (length-more (d .table) r, so .here) (omega arith); room = so .room; helpers = so .helpers }
 
-pub writes-same : {f g : List Record → List Record} {at after : ℕ} {xs xs′ : List ℕ} → ((ts : List Record) → g ts ≡ f ts) → Writes f at after xs xs′ → Writes g at after xs xs′
-writes-same is w = record { size = λ ts e. ap length (is ts) ∙ w .size ts e; grows = λ ts e. rw (is ts) (w .grows ts e) }
+pub writes-put : (r : Record) (at : ℕ) (hs xs : List ℕ) → Writes (λ d. more d r) at (at + 1) hs hs xs (putRecord xs at r)
+writes-put r at hs xs = record { drafts = λ d so. drafted-more d r so; grows = λ d so. rw (← so .here) (grows-put (d .table) r xs) }
 
--- an edge that needs no helper, and one that does
-pub places-same : {p : List Record → Placed} {x at : ℕ} {xs : List ℕ} → ((ts : List Record) → p ts ≡ record { operand = x; table = ts }) → Places p at (record { operand = x; at = at }) xs xs
-places-same {p} {x} {at} {xs} is = record {
+pub writes-same : {f g : Draft → Draft} {at after : ℕ} {hs hs′ xs xs′ : List ℕ} → ((d : Draft) → Drafted at hs d → g d ≡ f d) → Writes f at after hs hs′ xs xs′ → Writes g at after hs hs′ xs xs′
+writes-same is w = record { drafts = λ d so. rw (is d so) (w .drafts d so); grows = λ d so. rw (is d so) (w .grows d so) }
+
+-- an edge that needs no helper made, and one that does
+pub places-same : {p : Draft → Placed} {x at : ℕ} {hs xs : List ℕ} → ((d : Draft) → Drafted at hs d → p d ≡ record { operand = x; draft = d }) → Places p at (record { operand = x; at = at }) hs hs xs xs
+places-same {p} {x} {at} {hs} {xs} is = record {
   near = omega arith;
-  operand = λ ts e. sym (ap (λ (q : Placed). q .operand) (is ts));
-  writes = writes-same (λ ts. ap (λ (q : Placed). q .table) (is ts)) (writes-none at xs);
+  operand = λ d so. sym (ap (λ (q : Placed). q .operand) (is d so));
+  writes = writes-same (λ d so. ap (λ (q : Placed). q .draft) (is d so)) (writes-none at hs xs);
 }
 
-pub places-more : {p : List Record → Placed} {at : ℕ} {r : Record} {xs : List ℕ} → ((ts : List Record) → p ts ≡ record { operand = length ts + 2; table = ts ++ r ∷ [] })
-    → Places p at (record { operand = at + 2; at = at + 1 }) xs (putRecord xs at r)
-places-more {p} {at} {r} {xs} is = record {
+pub places-more : {p : Draft → Placed} {at k : ℕ} {r : Record} {hs xs : List ℕ} → k < 1057
+    → ((d : Draft) → Drafted at hs d → p d ≡ record { operand = length (d .table) + 2; draft = record { table = d .table ++ r ∷ []; helpers = noted k (length (d .table) + 2) (d .helpers) } })
+    → Places p at (record { operand = at + 2; at = at + 1 }) hs (set hs k (at + 2)) xs (putRecord xs at r)
+places-more {p} {at} {k} {r} {hs} {xs} low is = record {
   near = omega arith;
-  operand = λ ts e. rw (is ts, e);
-  writes = writes-same (λ ts. ap (λ (q : Placed). q .table) (is ts)) (writes-put r at xs);
+  operand = λ d so. rw (is d so, so .here);
+  writes = record {
+    drafts = λ d so. rw (is d so) (record {
+      here = rw (length-more (d .table) r, so .here) (omega arith);
+      room = length-set hs k (at + 2) ∙ so .room;
+      helpers = λ i. helpers d so i (ℕ-discrete i k);
+    });
+    grows = λ d so. rw (is d so, ← so .here) (grows-put (d .table) r xs);
+  };
 }
+  where
+    helpers : (d : Draft) → Drafted at hs d → (i : ℕ) → Dec (i ≡ k) → helperIn (set hs k (at + 2)) i ≡ noted k (length (d .table) + 2) (d .helpers) i
+    helpers d so i (yes q) = rw (q, eq-eqb k k refl, so .here) (getD-set-same hs k (at + 2) 0 (omega (arith, so .room)))
+    helpers d so i (no q) = rw (ne-eqb i k q) (getD-set-other hs k i (at + 2) 0 q ∙ so .helpers i)
+
+-- the bytes with the first k of the outputs os
+pub laid-outputs : {ys xs : List ℕ} {first : ℕ} {ts : List Record} (named : List ℕ) (os : List Record) → length ts ≤ first → 8 * (first + length os) ≤ length ys
+    → Laid ys first ts [] xs → (k : ℕ) → k ≤ length os → ((j : ℕ) → j < k → recordAt os j ≡ output (getD named j 0)) → Laid ys first ts (take k os) (outputsPut named first k xs)
+unfolding outputsPut
+laid-outputs named os h room so zero l names = so
+laid-outputs {ys} {xs} {first} {ts} named os h room so (suc k) l names =
+    let less : length (take k os) ≡ k = length-take-le k os (omega arith) in
+    let rest : Laid ys first ts (take k os) (outputsPut named first k xs) = laid-outputs named os h room so k (omega arith) (λ j q. names j (omega arith)) in
+    rw (take-suc os k blank (omega arith), names k (omega arith))
+    (rw less at (laid-output (output (getD named k 0)) h (omega arith) rest))

@@ -1,5 +1,4 @@
 // The RM3 table of a majority table: its bytes, and its depth.
-mod counting;
 mod levels;
 mod writing;
 
@@ -12,6 +11,7 @@ use refusals::Refusal;
 use tables::Checked;
 use tables::check;
 use tables::check_as;
+use translation::Mode;
 use writing::written_after;
 ghost use mathlib.Core.Path.{_≡_};
 ghost use lib.ListN.{length};
@@ -32,23 +32,23 @@ pub enum Depth {
     Refused(Refusal),
 }
 
-// Writes the RM3 table of the table in the first used bytes of s to the beginning of out, and answers its length.
-pub fn translate(s: &[u8], used: usize, out: &mut [u8]) -> Translated
-    ensures reply { λ r. ⌜ saidTranslate r ≡ translateOf (now (s .entry)) used (length (now (out .entry))) ⌝ }
-    ensures bytes { λ _. ⌜ now (out .exit) ≡ translateBytes (now (s .entry)) used (now (out .entry)) ⌝ }
+// Writes the RM3 table of the table in the first used bytes of s, in this mode, to the beginning of out, and answers its length.
+pub fn translate(mode: Mode, s: &[u8], used: usize, out: &mut [u8]) -> Translated
+    ensures reply { λ r. ⌜ saidTranslate r ≡ translateOf mode (now (s .entry)) used (length (now (out .entry))) ⌝ }
+    ensures bytes { λ _. ⌜ now (out .exit) ≡ translateBytes mode (now (s .entry)) used (now (out .entry)) ⌝ }
 {
-    written_after(s, check(s, used), out)
+    written_after(mode, s, check(s, used), out)
 }
 
 // The same of all bytes of s, whose counts are claimed.
-pub fn translate_as(s: &[u8], claim: Counts, out: &mut [u8]) -> Translated
-    ensures reply { λ r. ⌜ saidTranslate r ≡ claimedTranslate (now (s .entry)) claim (length (now (out .entry))) ⌝ }
-    ensures bytes { λ _. ⌜ now (out .exit) ≡ claimedBytes (now (s .entry)) claim (now (out .entry)) ⌝ }
+pub fn translate_as(mode: Mode, s: &[u8], claim: Counts, out: &mut [u8]) -> Translated
+    ensures reply { λ r. ⌜ saidTranslate r ≡ claimedTranslate mode (now (s .entry)) claim (length (now (out .entry))) ⌝ }
+    ensures bytes { λ _. ⌜ now (out .exit) ≡ claimedBytes mode (now (s .entry)) claim (now (out .entry)) ⌝ }
 {
-    written_after(s, check_as(s, claim), out)
+    written_after(mode, s, check_as(s, claim), out)
 }
 
-// The depth of the RM3 table of the table in the first used bytes of s.
+// The depth of the RM3 table of the table in the first used bytes of s, the same in both modes.
 pub fn rm3_depth(s: &[u8], used: usize) -> Depth
     ensures { λ r. ⌜ saidDepth r ≡ depthOf (now (s .entry)) used ⌝ }
 {

@@ -21,7 +21,7 @@ unfolding translateOf translateBytes rm3Of
 returns c = let w = c .before .before in
     let k = w .before .before in
     let a = k .before .before .before .args in
-    rw (sym (after-check _ _ (rm3In (length (a .out .now))) (k .check .result) (k .check .ensures))) (w .written-after .ensures)
+    rw (sym (after-check _ _ (rm3In (a .mode) (length (a .out .now))) (k .check .result) (k .check .ensures))) (w .written-after .ensures)
 
 pub translate-spec : {M : Type 1} → statement M
 translate-spec = tie.close (tie.spec check-requires written-after-requires same-length returns)

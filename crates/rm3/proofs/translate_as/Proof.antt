@@ -22,7 +22,7 @@ unfolding claimedTranslate claimedBytes claimedRm3
 returns c = let w = c .before .before in
     let k = w .before .before in
     let a = k .before .before .before .args in
-    rw (sym (after-claimed _ _ (rm3In (length (a .out .now))) (k .check-as .result) (k .check-as .ensures))) (w .written-after .ensures)
+    rw (sym (after-claimed _ _ (rm3In (a .mode) (length (a .out .now))) (k .check-as .result) (k .check-as .ensures))) (w .written-after .ensures)
 
 pub translate-as-spec : {M : Type 1} → statement M
 translate-as-spec = tie.close (tie.spec check-as-requires written-after-requires same-length returns)

@@ -5,7 +5,7 @@ use borrow.Author.Needs.{needs}
 use lib.ListN.{getD}
 use Rattle.majority.specs.If.{if_then_else_}
 use Rattle.majority.specs.Edge.{nodeOf}
-use Rattle.rm3.proofs.CountHelpers.{as-number}
+use Rattle.rm3.proofs.LevelPass.{as-number}
 use Rattle.rm3.proofs.levels.edge_level.Statement.{statement}
 use Rattle.rm3.proofs.levels.edge_level.Tie as tie
 

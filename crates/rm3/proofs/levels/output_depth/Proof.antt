@@ -8,6 +8,7 @@ use Rattle.majority.specs.If.{if_then_else_}
 use Rattle.majority.specs.Edge.{nodeOf}
 use Rattle.majority.specs.Level.{highest as highestOf}
 use Rattle.majority.specs.declared.Record.{Record}
+use Rattle.translation.specs.declared.Mode.the-variants.{Once}
 use Rattle.majority.proofs.Levels.{highest-more}
 use Rattle.translation.specs.Rm3.{outputLevel3, depth3}
 use Rattle.translation.specs.Translate.{translation, operations}
@@ -22,7 +23,7 @@ use Rattle.rm3.proofs.levels.output_depth.Tie as tie
 abbrev Inv-loop : tie.InvT-loop
 Inv-loop levels s counts highest₀ j₀ highest j =
     let rs = tableIn s counts in
-    (j ≤ counts .outputs) × (highest ≡ highestOf (outputLevel3 (counts .inputs) (operations (counts .inputs) (counts .gates) rs) (translation (counts .inputs) (counts .gates) rs)) j)
+    (j ≤ counts .outputs) × (highest ≡ highestOf (outputLevel3 (counts .inputs) (operations Once (counts .inputs) (counts .gates) rs) (translation Once (counts .inputs) (counts .gates) rs)) j)
 
 abbrev μ-loop : tie.MeasureT-loop
 μ-loop levels s counts highest₀ j₀ highest j = counts .outputs - j

@@ -1,54 +1,31 @@
--- `writing::put_outputs` meets its contract: the outputs so far are written, with their helpers, and what is left decides.
-use mathlib.Core.Path.{_≡_, ap, _∙_, subst}
-use Prim.Native.Nat.{ℕ, _+_, _-_, _≤_}
+-- `writing::put_outputs` meets its contract: the outputs so far are put.
+use mathlib.Core.Path.{_≡_, ap, _∙_}
+use Prim.Native.Nat.{ℕ, suc, _+_, _-_, _≤_}
 use native.Mathlib.Omega.{arith}
+use lib.ListN.{length}
+use Rattle.rm3.specs.inner.Laid.{outputsPut}
 use borrow.Author.Needs.{needs}
-use Rattle.majority.specs.declared.Record.{Record}
-use Rattle.majority.proofs.Formed.{reads-nodes}
-use Rattle.tables.specs.Sound.{tableIn}
-use Rattle.tables.proofs.Sound.{sound-accepted, sound-formed, read-record}
-use Rattle.rm3.proofs.OutputPass.{Naming, naming-start, naming-small, naming-more, naming-end}
 use Rattle.rm3.proofs.writing.put_outputs.Statement.{statement}
 use Rattle.rm3.proofs.writing.put_outputs.Tie as tie
 
 abbrev Inv-loop : tie.InvT-loop
-Inv-loop operands s counts made first out₀ at₀ j₀ out at j = (j ≤ counts .outputs) × Naming counts (tableIn s counts) out₀ j at operands out
+Inv-loop named outputs first out₀ j₀ out j = (j ≤ outputs) × (length out ≡ length out₀) × (out ≡ outputsPut named first j out₀)
 
 abbrev μ-loop : tie.MeasureT-loop
-μ-loop operands s counts made first out₀ at₀ j₀ out at j = counts .outputs - j
+μ-loop named outputs first out₀ j₀ out j = outputs - j
 
 loop-holds : tie.Need-loop-holds Inv-loop μ-loop
-loop-holds c = let pre = c .before .before .pre in
-    (search needs, naming-start (pre .0) (pre .3))
-
-add-record-at : tie.Need-add-record-at Inv-loop μ-loop
-add-record-at c = let f = c .before .before .before .before .before .before .pre .0 .fits in
-    omega arith
-
-add-record-at-2 : tie.Need-add-record-at-2 Inv-loop μ-loop
-add-record-at-2 c = let f = c .before .before .before .before .before .before .pre .0 .fits in
-    omega arith
-
-record-at-requires : tie.Need-record-at-requires Inv-loop μ-loop
-record-at-requires c κs = search needs
-
-output-helped-requires : tie.Need-output-helped-requires Inv-loop μ-loop
-output-helped-requires c κs = search needs
-
-place-requires : tie.Need-place-requires Inv-loop μ-loop
-place-requires c κs = let r = c .before .before in
-    let l = r .before .before .before .before in
-    let sound = l .before .before .before .pre .0 in
-    let a = l .before .before .before .args in
-    let k = a .counts .inputs + a .counts .gates + l .loop .j in
-    let limits = sound-accepted sound .limits in
-    let low = reads-nodes (sound-formed sound) k (omega (arith, sound-formed sound .whole)) .first in
-    (rw (r .record-at .ensures ∙ read-record sound k (omega arith)) (omega arith), c .before .output-helped .ensures, omega (arith, naming-small sound (l .loop .inv .1)))
+unfolding outputsPut
+loop-holds c = search needs
 
 add-put-record : tie.Need-add-put-record Inv-loop μ-loop
-add-put-record c = let l = c .before .before .before .before .before .before .before .before .before .before in
-    let pre = l .before .before .before .pre in
-    omega (arith, pre .2)
+add-put-record c = search needs
+
+mul-output : tie.Need-mul-output Inv-loop μ-loop
+mul-output c = search needs
+
+element-copy-out-output : tie.Need-element-copy-out-output Inv-loop μ-loop
+element-copy-out-output c = search needs
 
 output-requires : tie.Need-output-requires Inv-loop μ-loop
 output-requires c κs = search needs
@@ -63,25 +40,19 @@ loop-less : tie.Need-loop-less Inv-loop μ-loop
 loop-less c = search needs
 
 loop-again : tie.Need-loop-again Inv-loop μ-loop
-loop-again c = let w = c .before .before in
-    let p = w .before .before .before .before .before in
-    let r = p .before .before .before in
-    let l = r .before .before .before .before in
-    let pre = l .before .before .before .pre in
-    let a = l .before .before .before .args in
-    let k = a .counts .inputs + a .counts .gates + l .loop .j in
-    let edge = ap (λ (q : Record). q .e1) (r .record-at .ensures ∙ read-record (pre .0) k (omega arith)) in
-    let room = rw (pre .1) at (pre .2) in
-    (search needs, rw (w .put-record .ensures, w .before .output .ensures, pre .1) (naming-more (pre .0) _ edge (r .before .before .if1 .taken) room (p .place .ensures) (l .loop .inv .1)))
+unfolding outputsPut
+loop-again c = let p = c .before .before in
+    let l = p .before .before .before .before .before in
+    let one : l .loop .j + 1 ≡ suc (l .loop .j) = omega arith in
+    (search needs, p .put-record .kept .0 ∙ l .loop .inv .1, rw (one, p .put-record .ensures, p .before .output .ensures, l .loop .inv .2))
 
 same-length : tie.Need-same-length Inv-loop μ-loop
-same-length c = c .before .before .loop .inv .1 .laid .size
+same-length c = c .before .loop .inv .1
 
 returns : tie.Need-returns Inv-loop μ-loop
-returns c = let l = c .before .before in
-    let a = l .before .before .before .args in
-    let all : l .loop .j ≡ a .counts .outputs = omega arith in
-    naming-end (l .before .before .before .pre .0) (subst (λ (k : ℕ). Naming (a .counts) (tableIn (a .s .now) (a .counts)) (a .out .now) k (l .loop .at) (a .operands .now) (l .loop .out)) all (l .loop .inv .1))
+returns c = let l = c .before in
+    let all : l .loop .j ≡ l .before .before .args .outputs = omega arith in
+    l .loop .inv .2 ∙ ap (λ (k : ℕ). outputsPut (l .before .before .args .named .now) (l .before .before .args .first) k (l .before .before .args .out .now)) all
 
 pub put-outputs-spec : {M : Type 1} → statement M
 put-outputs-spec =
@@ -90,12 +61,9 @@ put-outputs-spec =
     Inv-loop
     μ-loop
     loop-holds
-    add-record-at
-    add-record-at-2
-    record-at-requires
-    output-helped-requires
-    place-requires
     add-put-record
+    mul-output
+    element-copy-out-output
     output-requires
     put-record-requires
     add-j

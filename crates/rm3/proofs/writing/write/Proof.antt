@@ -1,26 +1,36 @@
--- `writing::write` meets its contract: first what stands for the nodes, then the outputs with their helpers.
+-- `writing::write` meets its contract: first the inputs and operations, then the outputs.
 use native.Mathlib.Omega.{arith}
+use Rattle.tables.proofs.Sound.{sound-accepted}
+use Rattle.rm3.proofs.FitsBuffer.{fitting-small}
+use Rattle.rm3.proofs.OutputPass.{put-holding}
 use borrow.Author.Needs.{needs}
-use Rattle.tables.proofs.Sound.{fresh}
-use Rattle.rm3.proofs.OutputPass.{laid-holding}
 use Rattle.rm3.proofs.writing.write.Statement.{statement}
 use Rattle.rm3.proofs.writing.write.Tie as tie
 
-put-nodes-requires : tie.Need-put-nodes-requires
-put-nodes-requires c κs = let pre = c .before .before .before .before .pre in
-    (pre .0, fresh 0, omega arith)
+put-operands-requires : tie.Need-put-operands-requires
+put-operands-requires c κs = search needs
 
 put-outputs-requires : tie.Need-put-outputs-requires
-put-outputs-requires c κs = search needs
+put-outputs-requires c κs = let o = c .before .before .before .before in
+    let start = o .before .before .before .before .before in
+    let limits = sound-accepted (start .pre .0) .limits in
+    let small = fitting-small (start .args .mode) (start .pre .0) in
+    (omega arith, omega (arith, o .put-operands .ensures .count))
+
+add-result : tie.Need-add-result
+add-result c = search needs
 
 same-length : tie.Need-same-length
 same-length c = search needs
 
 returns : tie.Need-returns
-returns c = let p = c .before .before in
-    let n = p .before .before .before .before .before in
-    let pre = n .before .before .before .before .before .pre in
-    laid-holding (pre .0) (λ i. c .slice-known3 .given i .fits) (omega (arith, n .put-nodes .ensures .laid .size, pre .1, pre .2)) (n .put-nodes .ensures) (p .put-outputs .ensures)
+returns c = let p = c .before .before .before in
+    let o = p .before .before .before .before .before in
+    let start = o .before .before .before .before .before in (
+      omega (arith, o .put-operands .ensures .count),
+      put-holding (start .args .mode) (start .pre .0) (o .put-operands .ensures) (p .put-outputs .ensures) (λ i. c .before .slice-known3 .given i .fits) (start .pre .1),
+    )
 
 pub write-spec : {M : Type 1} → statement M
-write-spec = tie.close (tie.spec put-nodes-requires put-outputs-requires same-length returns)
+write-spec =
+    tie.close (tie.spec put-operands-requires put-outputs-requires add-result same-length returns)

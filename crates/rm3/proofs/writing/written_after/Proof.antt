@@ -27,11 +27,11 @@ returns : tie.Need-returns
 returns c = let w = c .before .before in
     let k = w .before .before .before in
     let a = k .before .before .before .before .args in
-    rw (then-accepted (λ (d : Counts). rm3In (length (a .out .now)) (tableIn (a .s .now) d) d) (a .checked) _ refl _ (k .checked .given .1)) (w .written .ensures)
+    rw (then-accepted (λ (d : Counts). rm3In (a .mode) (length (a .out .now)) (tableIn (a .s .now) d) d) (a .checked) _ refl _ (k .checked .given .1)) (w .written .ensures)
 
 returns-2 : tie.Need-returns-2
 returns-2 c = let a = c .before .before .before .before .before .args in
-    rw (then-refused (λ (d : Counts). rm3In (length (a .out .now)) (tableIn (a .s .now) d) d) (a .checked) _ refl _ (c .before .checked2 .given .1)) (refl, refl)
+    rw (then-refused (λ (d : Counts). rm3In (a .mode) (length (a .out .now)) (tableIn (a .s .now) d) d) (a .checked) _ refl _ (c .before .checked2 .given .1)) (refl, refl)
 
 pub written-after-spec : {M : Type 1} → statement M
 written-after-spec =
