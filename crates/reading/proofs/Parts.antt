@@ -13,6 +13,7 @@ use Rattle.refusals.specs.Reply.{Reply, accepted, refused, andThen}
 use Rattle.majority.specs.Check.{count, checkKinds}
 use Rattle.majority.specs.declared.Record.{Record}
 use Rattle.majority.specs.declared.Counts.{Counts}
+use Rattle.translation.specs.declared.Mode.{Mode}
 use Rattle.tables.specs.Bytes.{decode, tableOf, recordsOf}
 use Rattle.tables.specs.Calls.{checkOf}
 use Rattle.tables.specs.Claimed.{checkCounted, checkClaimed, claimedCheck}
@@ -58,9 +59,9 @@ module _ (xs : List ℕ) (used : ℕ) where
     read-report = read-then (λ (rs : List Record) (k : Counts). accepted (sizeOf rs k))
 
     -- the RM3 table, of which both the reply and the bytes are told
-    pub read-rm3 : (room : ℕ) → claimedRm3 (partIn xs used) (countsIn xs used) room ≡ rm3Of xs used room
+    pub read-rm3 : (mode : Mode) (room : ℕ) → claimedRm3 mode (partIn xs used) (countsIn xs used) room ≡ rm3Of mode xs used room
     unfolding claimedRm3 rm3Of
-    read-rm3 room = read-then (rm3In room)
+    read-rm3 mode room = read-then (rm3In mode room)
 
   -- no records and no counts: 3
   none-claimed : claimedCheck [] (claim 0 0 0) ≡ refused (why 3)

@@ -8,15 +8,16 @@ use rm3::Translated;
 use rm3::translate_as;
 use tables::Checked;
 use tables::check_as;
+use translation::Mode;
 ghost use mathlib.Core.Path.{_≡_};
-ghost use lib.ListN.{length, take};
+ghost use lib.ListN.{take};
 ghost use Rattle.tables.specs.Said.{saidCheck};
 ghost use Rattle.tables.specs.Claimed.{claimedCheck};
 ghost use Rattle.questions.specs.Said.{saidValue, saidReport};
 ghost use Rattle.questions.specs.Claimed.{claimedEvaluate, claimedReport};
-ghost use Rattle.rm3.specs.Said.{saidTranslate};
-ghost use Rattle.rm3.specs.Claimed.{claimedTranslate, claimedBytes};
+ghost use Rattle.translation.specs.declared.Mode.the-variants.{Anew, Once};
 ghost use Rattle.reading.specs.Held.{claim, claimed, foundIn, partIn, countsIn};
+ghost use Rattle.reading.specs.Written.{WrittenIn};
 
 // Nothing of a reading is trusted: each question checks the records and the counts again.
 pub struct Reading<'a> {
@@ -61,6 +62,19 @@ fn report_parts(records: &[u8], inputs: usize, gates: usize, outputs: usize) -> 
     report_as(records, counts(inputs, gates, outputs))
 }
 
+fn translate_in(
+    mode: Mode,
+    records: &[u8],
+    inputs: usize,
+    gates: usize,
+    outputs: usize,
+    out: &mut [u8],
+) -> Translated
+    ensures { λ r. ⌜ WrittenIn mode (now (records .entry)) (claim inputs gates outputs) (now (out .entry)) r (now (out .exit)) ⌝ }
+{
+    translate_as(mode, records, counts(inputs, gates, outputs), out)
+}
+
 fn translate_parts(
     records: &[u8],
     inputs: usize,
@@ -68,9 +82,21 @@ fn translate_parts(
     outputs: usize,
     out: &mut [u8],
 ) -> Translated
-    ensures { λ r. ⌜ (saidTranslate r ≡ claimedTranslate (now (records .entry)) (claim inputs gates outputs) (length (now (out .entry)))) × (now (out .exit) ≡ claimedBytes (now (records .entry)) (claim inputs gates outputs) (now (out .entry))) ⌝ }
+    ensures { λ r. ⌜ WrittenIn Once (now (records .entry)) (claim inputs gates outputs) (now (out .entry)) r (now (out .exit)) ⌝ }
 {
-    translate_as(records, counts(inputs, gates, outputs), out)
+    translate_in(Mode::Once, records, inputs, gates, outputs, out)
+}
+
+fn translate_anew_parts(
+    records: &[u8],
+    inputs: usize,
+    gates: usize,
+    outputs: usize,
+    out: &mut [u8],
+) -> Translated
+    ensures { λ r. ⌜ WrittenIn Anew (now (records .entry)) (claim inputs gates outputs) (now (out .entry)) r (now (out .exit)) ⌝ }
+{
+    translate_in(Mode::Anew, records, inputs, gates, outputs, out)
 }
 
 // The used length and counts of a table, all zero where there is none.
@@ -158,11 +184,18 @@ pub fn report<'a>(r: Reading<'a>) -> Reported
     report_parts(r.records, r.inputs, r.gates, r.outputs)
 }
 
-// Writes the RM3 table to the beginning of out, and answers its length.
+// Writes the RM3 table, with one helper per inverse, to the beginning of out, and answers its length.
 pub fn translate<'a, 'b>(r: Reading<'a>, out: &'b mut [u8]) -> Translated
-    ensures { λ x. ⌜ (saidTranslate x ≡ claimedTranslate (now (r .entry .records)) (claimed (r .entry)) (length (now (out .entry)))) × (now (out .exit) ≡ claimedBytes (now (r .entry .records)) (claimed (r .entry)) (now (out .entry))) ⌝ }
+    ensures { λ x. ⌜ WrittenIn Once (now (r .entry .records)) (claimed (r .entry)) (now (out .entry)) x (now (out .exit)) ⌝ }
 {
     translate_parts(r.records, r.inputs, r.gates, r.outputs, out)
+}
+
+// The same with each helper made anew.
+pub fn translate_anew<'a, 'b>(r: Reading<'a>, out: &'b mut [u8]) -> Translated
+    ensures { λ x. ⌜ WrittenIn Anew (now (r .entry .records)) (claimed (r .entry)) (now (out .entry)) x (now (out .exit)) ⌝ }
+{
+    translate_anew_parts(r.records, r.inputs, r.gates, r.outputs, out)
 }
 
 // The same of records and counts: whoever calls these handles no reading.
@@ -197,7 +230,19 @@ pub fn translated_as(
     outputs: usize,
     out: &mut [u8],
 ) -> Translated
-    ensures { λ r. ⌜ (saidTranslate r ≡ claimedTranslate (now (records .entry)) (claim inputs gates outputs) (length (now (out .entry)))) × (now (out .exit) ≡ claimedBytes (now (records .entry)) (claim inputs gates outputs) (now (out .entry))) ⌝ }
+    ensures { λ r. ⌜ WrittenIn Once (now (records .entry)) (claim inputs gates outputs) (now (out .entry)) r (now (out .exit)) ⌝ }
 {
     translate(hold(records, inputs, gates, outputs), out)
+}
+
+pub fn translated_anew_as(
+    records: &[u8],
+    inputs: usize,
+    gates: usize,
+    outputs: usize,
+    out: &mut [u8],
+) -> Translated
+    ensures { λ r. ⌜ WrittenIn Anew (now (records .entry)) (claim inputs gates outputs) (now (out .entry)) r (now (out .exit)) ⌝ }
+{
+    translate_anew(hold(records, inputs, gates, outputs), out)
 }

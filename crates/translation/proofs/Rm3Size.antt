@@ -106,8 +106,8 @@ module _ {n m o : ℕ} {rs : List Record} (formed : WellFormed n m o rs) where
   anew-counted = omega (arith, operations-add Anew .anew refl)
 
   -- in no mode are there more
-  pub anew-most : (mode : Mode) → operations mode n m rs ≤ operations Anew n m rs
-  anew-most mode = omega (arith, operations-add mode .most, anew-counted)
+  pub never-more : (mode : Mode) → operations mode n m rs ≤ operations Anew n m rs
+  never-more mode = omega (arith, operations-add mode .most, anew-counted)
 
   pub translated-size : (mode : Mode) → operations mode n m rs ≤ 3 * m + o
   translated-size mode =
