@@ -196,7 +196,7 @@ impl Program {
     }
 
     // How many arguments of its own the program has.
-    fn arguments(self) -> usize {
+    pub fn arguments(self) -> usize {
         let count = os::arg_count();
         if count < self.first {
             return 0;
@@ -223,10 +223,11 @@ impl Program {
         self.written(whole, End::Accepted)
     }
 
-    // Looks at the arguments, of which the program takes so many: it goes on, or helps, or says what is wrong.
-    pub fn called(
+    // Looks at the arguments, of which the program takes from least to most: it goes on, or helps, or says what is wrong.
+    pub fn called_between(
         self,
-        takes: usize,
+        least: usize,
+        most: usize,
         missing: &[u8],
         superfluous: &[u8],
         usage: &[u8],
@@ -236,13 +237,25 @@ impl Program {
             return Called::Done(self.help(usage, text));
         }
         let count = self.arguments();
-        if count < takes {
+        if count < least {
             return Called::Done(self.misused(missing, usage));
         }
-        if takes < count {
+        if most < count {
             return Called::Done(self.misused(superfluous, usage));
         }
         Called::Rightly
+    }
+
+    // The same where it takes exactly so many.
+    pub fn called(
+        self,
+        takes: usize,
+        missing: &[u8],
+        superfluous: &[u8],
+        usage: &[u8],
+        text: &[u8],
+    ) -> Called {
+        self.called_between(takes, takes, missing, superfluous, usage, text)
     }
 }
 

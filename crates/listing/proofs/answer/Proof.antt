@@ -1,12 +1,12 @@
--- `rm3list::answer` is safe and ends: an accepted table's RM3 table has its inputs and outputs, and fits the buffer. Assumes nothing.
+-- `listing::answer` is safe and ends: an accepted table's RM3 table has its inputs and outputs, and fits the buffer. Assumes nothing.
 use mathlib.Core.Path.{sym, ap, _∙_}
 use native.Mathlib.Omega.{arith}
 use Rattle.tables.specs.Said.{saidCheck}
 use Rattle.rm3.specs.Said.{saidTranslate}
 use Rattle.rm3.proofs.Replies.{reply-fits, reply-counts}
 use borrow.Author.Needs.{needs}
-use Rattle.rm3list.proofs.answer.Statement.{statement}
-use Rattle.rm3list.proofs.answer.Tie as tie
+use Rattle.listing.proofs.answer.Statement.{statement}
+use Rattle.listing.proofs.answer.Tie as tie
 
 check-requires : tie.Need-check-requires
 check-requires c κs = search needs
@@ -36,8 +36,8 @@ add-head c = let l = c .before .before .before .before .before .before .before i
     let d = k .before .before in
     let checked = sym (d .check .ensures) ∙ ap saidCheck (k .c .given .1) in
     let said = sym (ap saidTranslate (l .length .given .1)) ∙ t .translate .ensures .0 in
-    let counts = reply-counts _ _ _ _ checked _ said in
-    let fits = reply-fits _ _ _ _ said in
+    let counts = reply-counts _ _ _ _ _ checked _ said in
+    let fits = reply-fits _ _ _ _ _ said in
     omega arith
 
 sub-head : tie.Need-sub-head
@@ -47,7 +47,7 @@ sub-head c = let l = c .before .before .before .before .before .before .before i
     let d = k .before .before in
     let checked = sym (d .check .ensures) ∙ ap saidCheck (k .c .given .1) in
     let said = sym (ap saidTranslate (l .length .given .1)) ∙ t .translate .ensures .0 in
-    let counts = reply-counts _ _ _ _ checked _ said in
+    let counts = reply-counts _ _ _ _ _ checked _ said in
     omega arith
 
 head-requires : tie.Need-head-requires
@@ -56,7 +56,7 @@ head-requires c κs = search needs
 listed-requires : tie.Need-listed-requires
 listed-requires c κs = let l = c .before .before .before .before .before .before .before .before .before in
     let t = l .before .before .before in
-    let fits = reply-fits _ _ _ _ (sym (ap saidTranslate (l .length .given .1)) ∙ t .translate .ensures .0) in
+    let fits = reply-fits _ _ _ _ _ (sym (ap saidTranslate (l .length .given .1)) ∙ t .translate .ensures .0) in
     omega arith
 
 enum-known-r : tie.Need-enum-known-r

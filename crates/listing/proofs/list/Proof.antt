@@ -1,8 +1,8 @@
--- `rm3list::list` is safe and ends. The measure is the number of records that are left; nothing has to hold from turn to turn. Assumes nothing.
+-- `listing::list` is safe and ends. The measure is the number of records that are left; nothing has to hold from turn to turn. Assumes nothing.
 use Prim.Native.Nat.{_-_}
 use borrow.Author.Needs.{needs}
-use Rattle.rm3list.proofs.list.Statement.{statement}
-use Rattle.rm3list.proofs.list.Tie as tie
+use Rattle.listing.proofs.list.Statement.{statement}
+use Rattle.listing.proofs.list.Tie as tie
 
 abbrev Inv-loop : tie.InvT-loop
 Inv-loop program out inputs records i₀ t7 i = Unit {0}

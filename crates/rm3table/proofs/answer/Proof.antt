@@ -19,7 +19,7 @@ enum-known-length c = search needs
 
 array-share-prefix-out : tie.Need-array-share-prefix-out
 array-share-prefix-out c = let l = c .before in
-    let fits = reply-fits _ _ _ _ (sym (ap saidTranslate (l .length .given .1)) ∙ l .before .before .before .translate .ensures .0) in
+    let fits = reply-fits _ _ _ _ _ (sym (ap saidTranslate (l .length .given .1)) ∙ l .before .before .before .translate .ensures .0) in
     omega (arith, l .before .before .out2 .given)
 
 slice-aggregate-write-whole : tie.Need-slice-aggregate-write-whole
