@@ -67,12 +67,16 @@ struct pulpgarnet_ran pulpgarnet_follow(uint8_t *table, size_t length, size_t us
                                         const uint8_t *steps, size_t steps_length,
                                         uint16_t *places, size_t places_count);
 
-/* Writes the RM3 table to the first `length` bytes of out, and returns that length; the table stays as it was. 25,344 bytes
-   are enough for any. Refusals 1 to 5, 11. */
+/* Writes the RM3 table to the first `length` bytes of out, and returns that length; the table stays as it was. A node's helper is
+   made once, at its first need, and used again. 25,344 bytes are enough for any. Refusals 1 to 5, 11. */
 struct pulpgarnet_written pulpgarnet_translate(const uint8_t *table, size_t length, size_t used,
                                                uint8_t *out, size_t out_length);
 
-/* The depth of the RM3 table, which is the highest level among the operands that its outputs name. Writes nothing. Refusals 1 to 5. */
+/* The same with a helper made anew at each need, as in listings that were stored before. It never has fewer operations. */
+struct pulpgarnet_written pulpgarnet_translate_anew(const uint8_t *table, size_t length, size_t used,
+                                                    uint8_t *out, size_t out_length);
+
+/* The depth of the RM3 table, the same of both, which is the highest level among the operands that its outputs name. Writes nothing. Refusals 1 to 5. */
 struct pulpgarnet_deep pulpgarnet_rm3_depth(const uint8_t *table, size_t length, size_t used);
 
 /* The same as pulpgarnet_evaluate and pulpgarnet_report through a reading: all `length` bytes are the table, and its counts are

@@ -11,6 +11,7 @@ use Rattle.majority.specs.Check.{counts}
 use Rattle.majority.specs.Edit.{nodeRecord}
 use Rattle.rules.specs.Step.{deepensBy, votersBy}
 use Rattle.rules.specs.declared.Step.{Step}
+use Rattle.translation.specs.declared.Mode.{Mode}
 use Rattle.translation.specs.Rm3.{WellFormed3, outputValue3, depth3}
 use Rattle.majority.specs.declared.Record.{Record}
 use Rattle.tables.specs.Bytes.{tableOf}
@@ -89,13 +90,13 @@ SweepKeepsDepth =
     → stepOf xs used s ≡ accepted next
     → KeepsDepth n m o (tableOf xs (used / 8)) (stepBytes xs used s) next
 
--- what `translate` then replies, where out is the buffer given for the RM3 table
-abbrev pub replyAfter : After → List ℕ → Reply ℕ
-replyAfter after out = translateOf (after .bytes) (after .used) (length out)
+-- what `translate` then replies in a mode, where out is the buffer given for the RM3 table
+abbrev pub replyAfter : Mode → After → List ℕ → Reply ℕ
+replyAfter mode after out = translateOf mode (after .bytes) (after .used) (length out)
 
 -- the records in the first l bytes that it leaves in out
-abbrev pub rm3After : After → List ℕ → ℕ → List Record
-rm3After after out l = tableOf (translateBytes (after .bytes) (after .used) out) (l / 8)
+abbrev pub rm3After : Mode → After → List ℕ → ℕ → List Record
+rm3After mode after out l = tableOf (translateBytes mode (after .bytes) (after .used) out) (l / 8)
 
 -- from the first table, by what scripts leave, to the RM3 table ts
 pub record KeepsRm3 (n m o : ℕ) (first : List Record) (after : After) (ts : List Record) : Type 0 where
@@ -112,10 +113,11 @@ pub record KeepsRm3 (n m o : ℕ) (first : List Record) (after : After) (ts : Li
   -- a depth of at most twice the table's plus one
   pub deep : depth3 n operations o ts ≤ 2 * depth n gates o (tableAfter after) + 1
 
--- for every buffer, used length and scripts, and for every buffer out: where the first check accepts and `translate` replies the length l, all this is so of the bytes that it leaves
+-- for every buffer, used length and scripts, for either mode, and for every buffer out: where the first check accepts and `translate` replies the length l, all this is so of the bytes that it
+-- leaves
 unfoldable pub Demand3Rm3 : Type 0
 Demand3Rm3 =
-    (xs : List ℕ) (used : ℕ) (scripts : List (List ℕ)) (out : List ℕ) (n m o l : ℕ)
+    (xs : List ℕ) (used : ℕ) (scripts : List (List ℕ)) (mode : Mode) (out : List ℕ) (n m o l : ℕ)
     → checkOf xs used ≡ accepted (counts n m o)
-    → replyAfter (runScripts xs used scripts) out ≡ accepted l
-    → KeepsRm3 n m o (tableOf xs (used / 8)) (runScripts xs used scripts) (rm3After (runScripts xs used scripts) out l)
+    → replyAfter mode (runScripts xs used scripts) out ≡ accepted l
+    → KeepsRm3 n m o (tableOf xs (used / 8)) (runScripts xs used scripts) (rm3After mode (runScripts xs used scripts) out l)

@@ -22,6 +22,7 @@ use rm3::Translated;
 use rules::Step;
 use tables::Checked;
 use text::Line;
+use translation::Mode;
 
 // The most bytes that a part may have.
 const PART: usize = 65536;
@@ -156,19 +157,19 @@ fn script(table: &mut [u8], used: usize) -> Outcome {
     }
 }
 
-// The length of the RM3 table, and the buffer that it is written to.
-fn translate_to(table: &[u8], used: usize, out: &mut [u8]) -> Outcome {
-    match rm3::translate(table, used, out) {
+// The length of the RM3 table in a mode, and the buffer that it is written to.
+fn translate_to(mode: Mode, table: &[u8], used: usize, out: &mut [u8]) -> Outcome {
+    match rm3::translate(mode, table, used, out) {
         Translated::Length(n) => sent_with(Reply::accepted().number(n), out),
         Translated::Refused(r) => sent_with(Reply::refused(r).number(0), out),
     }
 }
 
-// Operation 6: the RM3 table, in a buffer that is read here.
-fn translate(table: &[u8], used: usize) -> Outcome {
+// Operations 6 and 16: the RM3 table, with helpers made anew or once, in a buffer that is read here.
+fn translate(mode: Mode, table: &[u8], used: usize) -> Outcome {
     let mut buffer = io::large_buffer();
     match input::read_part(&mut buffer) {
-        Part::Bytes(n) => translate_to(table, used, &mut buffer[..n]),
+        Part::Bytes(n) => translate_to(mode, table, used, &mut buffer[..n]),
         Part::Not(fault) => Outcome::Not(fault),
     }
 }
@@ -235,8 +236,9 @@ fn on_table(operation: u8, table: &mut [u8], used: usize) -> Outcome {
         3 => report(table, used),
         4 => step(table, used),
         5 => script(table, used),
+        16 => translate(Mode::Once, table, used),
         28 => follow(table, used),
-        _ => translate(table, used),
+        _ => translate(Mode::Anew, table, used),
     }
 }
 
@@ -282,7 +284,7 @@ fn with_counts(operation: u8, buffer: &mut [u8]) -> Outcome {
 // Answers a request that begins with this operation.
 fn on_operation(operation: u8, buffer: &mut [u8]) -> Outcome {
     match operation {
-        1..=6 | 28 => with_used(operation, buffer),
+        1..=6 | 16 | 28 => with_used(operation, buffer),
         7..=8 => with_counts(operation, buffer),
         _ => Outcome::Unknown(operation),
     }

@@ -5,6 +5,7 @@ use refusals::refusal_record;
 use rewriting::Ending;
 use rewriting::Progress;
 use rules::Step;
+use translation::Mode;
 ghost use mathlib.Core.Path.{_≡_};
 ghost use mathlib.Core.List.{[]};
 ghost use lib.ListN.{length};
@@ -17,6 +18,8 @@ ghost use Rattle.rules.specs.Step.{stepWith};
 ghost use Rattle.rewriting.specs.Calls.{stepOf, stepBytes};
 ghost use Rattle.rewriting.specs.Script.{runOf, scriptRun};
 ghost use Rattle.rewriting.specs.Follow.{followRun, placesAfter};
+ghost use Rattle.translation.specs.declared.Mode.the-variants.{Anew, Once};
+ghost use Rattle.rm3.specs.Said.{saidTranslate};
 ghost use Rattle.rm3.specs.Calls.{translateOf, translateBytes, depthOf};
 ghost use Rattle.pulpgarnet.specs.Replies.{checkedReply, valuedReply, reportedReply, steppedReply, ranReply, writtenReply, deepReply};
 
@@ -237,13 +240,10 @@ pub extern "C" fn pulpgarnet_follow(
     ran_reply(rewriting::follow(table, used, steps, places))
 }
 
-// The RM3 table, to the beginning of out: its length.
-#[no_mangle]
-pub extern "C" fn pulpgarnet_translate(table: &[u8], used: usize, out: &mut [u8]) -> Written
-    ensures reply { λ r. ⌜ r ≡ writtenReply (translateOf (now (table .entry)) used (length (now (out .entry)))) ⌝ }
-    ensures bytes { λ _. ⌜ now (out .exit) ≡ translateBytes (now (table .entry)) used (now (out .entry)) ⌝ }
+fn written_reply(answer: rm3::Translated) -> Written
+    ensures { λ r. ⌜ r ≡ writtenReply (saidTranslate answer) ⌝ }
 {
-    match rm3::translate(table, used, out) {
+    match answer {
         rm3::Translated::Length(length) => Written {
             refusal: 0,
             at: 0,
@@ -257,6 +257,24 @@ pub extern "C" fn pulpgarnet_translate(table: &[u8], used: usize, out: &mut [u8]
             length: 0,
         },
     }
+}
+
+// The RM3 table, with each node's helper made once, to the beginning of out: its length.
+#[no_mangle]
+pub extern "C" fn pulpgarnet_translate(table: &[u8], used: usize, out: &mut [u8]) -> Written
+    ensures reply { λ r. ⌜ r ≡ writtenReply (translateOf Once (now (table .entry)) used (length (now (out .entry)))) ⌝ }
+    ensures bytes { λ _. ⌜ now (out .exit) ≡ translateBytes Once (now (table .entry)) used (now (out .entry)) ⌝ }
+{
+    written_reply(rm3::translate(Mode::Once, table, used, out))
+}
+
+// The same, with helpers made anew at each need.
+#[no_mangle]
+pub extern "C" fn pulpgarnet_translate_anew(table: &[u8], used: usize, out: &mut [u8]) -> Written
+    ensures reply { λ r. ⌜ r ≡ writtenReply (translateOf Anew (now (table .entry)) used (length (now (out .entry)))) ⌝ }
+    ensures bytes { λ _. ⌜ now (out .exit) ≡ translateBytes Anew (now (table .entry)) used (now (out .entry)) ⌝ }
+{
+    written_reply(rm3::translate(Mode::Anew, table, used, out))
 }
 
 // The depth of the RM3 table.

@@ -12,6 +12,8 @@ use Rattle.tables.specs.Bytes.{encode, tableOf}
 use Rattle.tables.specs.Calls.{checkOf}
 use Rattle.questions.specs.Calls.{evaluateOf, reportOf}
 use Rattle.questions.specs.declared.Size.{Size}
+use Rattle.translation.specs.declared.Mode.{Mode}
+use Rattle.translation.specs.declared.Mode.the-variants.{Anew, Once}
 use Rattle.rm3.specs.Calls.{rm3Of}
 use Rattle.rewriting.specs.Script.{Run, End, finished, scriptRun}
 
@@ -26,7 +28,7 @@ pub data Question : Type 0 where
   -- what do these steps make of it, in a buffer that has room for fifteen gates more?
   run : List Record → List Record → Question
   -- what is its RM3 table, in a buffer with room for the longest?
-  translate : List Record → Question
+  translate : Mode → List Record → Question
 
 pub data Answer : Type 0 where
   -- accepted, with so many inputs, gates and outputs
@@ -63,7 +65,7 @@ answerTo (check xs used) = checkAnswer (checkOf xs used)
 answerTo (evaluate rs assignments) = replies (map (evaluateOf (encode rs) (8 * length rs)) assignments)
 answerTo (report rs) = sizeAnswer (reportOf (encode rs) (8 * length rs))
 answerTo (run rs steps) = runAnswer (scriptRun (encode rs ++ replicate 120 0) (8 * length rs) (encode steps))
-answerTo (translate rs) = rm3Answer (rm3Of (encode rs) (8 * length rs) 25344)
+answerTo (translate mode rs) = rm3Answer (rm3Of mode (encode rs) (8 * length rs) 25344)
 
 pub record Example : Type 0 where
   pub question : Question
@@ -158,17 +160,17 @@ abbrev pub sheet : List Example
 sheet =
     whole P1 ⟶ counts 2 1 1
     ∷ evaluate P1 upTo3 ⟶ outputs (0 ∷ 0 ∷ 0 ∷ 1 ∷ [])
-    ∷ translate P1 ⟶ makes (input ∷ input ∷ operation 2 1 3 ∷ output 4 ∷ [])
+    ∷ translate Anew P1 ⟶ makes (input ∷ input ∷ operation 2 1 3 ∷ output 4 ∷ [])
     ∷ evaluate P2 upTo7 ⟶ outputs (0 ∷ 0 ∷ 0 ∷ 1 ∷ 0 ∷ 1 ∷ 1 ∷ 1 ∷ [])
-    ∷ translate P2 ⟶ makes (input ∷ input ∷ input ∷ operation 0 3 1 ∷ operation 2 5 4 ∷ output 6 ∷ [])
+    ∷ translate Anew P2 ⟶ makes (input ∷ input ∷ input ∷ operation 0 3 1 ∷ operation 2 5 4 ∷ output 6 ∷ [])
     ∷ evaluate P3 upTo7 ⟶ outputs (1 ∷ 1 ∷ 1 ∷ 0 ∷ 1 ∷ 0 ∷ 0 ∷ 0 ∷ [])
-    ∷ translate P3 ⟶ makes (input ∷ input ∷ input ∷ operation 0 3 1 ∷ operation 0 4 1 ∷ operation 5 2 6 ∷ output 7 ∷ [])
+    ∷ translate Anew P3 ⟶ makes (input ∷ input ∷ input ∷ operation 0 3 1 ∷ operation 0 4 1 ∷ operation 5 2 6 ∷ output 7 ∷ [])
     ∷ report P4 ⟶ size 1 1
     ∷ run P4 (on 2 2 ∷ []) ⟶ leaves 1 finished (input ∷ gate 2 2 0 ∷ output 3 ∷ [])
     -- the gate is still there, and no output names it
     ∷ report (input ∷ gate 2 2 0 ∷ output 3 ∷ []) ⟶ size 1 0
     ∷ run P4 (on 2 2 ∷ swept ∷ []) ⟶ leaves 2 finished (input ∷ output 3 ∷ [])
-    ∷ translate (input ∷ output 3 ∷ []) ⟶ makes (input ∷ operation 0 2 1 ∷ output 3 ∷ [])
+    ∷ translate Anew (input ∷ output 3 ∷ []) ⟶ makes (input ∷ operation 0 2 1 ∷ output 3 ∷ [])
     ∷ run P5 (on 10 2 ∷ []) ⟶ leaves 1 finished (input ∷ gate 2 3 0 ∷ output 1 ∷ [])
     ∷ run P6 (on 3 6 ∷ []) ⟶ leaves 1 finished (input ∷ input ∷ input ∷ input ∷ gate 6 4 8 ∷ gate 6 4 2 ∷ gate 8 4 12 ∷ output 14 ∷ [])
     ∷ run P6 (on 3 6 ∷ swept ∷ []) ⟶ leaves 2 finished (input ∷ input ∷ input ∷ input ∷ gate 6 4 2 ∷ gate 8 4 10 ∷ output 12 ∷ [])
@@ -176,7 +178,8 @@ sheet =
     ∷ whole P8 ⟶ counts 3 3 2
     ∷ evaluate P8 upTo7 ⟶ outputs (0 ∷ 1 ∷ 1 ∷ 2 ∷ 1 ∷ 2 ∷ 2 ∷ 3 ∷ [])
     ∷ report P8 ⟶ size 3 2
-    ∷ translate P8 ⟶ makes (input ∷ input ∷ input ∷ operation 0 3 1 ∷ operation 2 5 4 ∷ operation 2 4 3 ∷ operation 7 6 4 ∷ output 8 ∷ output 6 ∷ [])
+    ∷ translate Anew P8 ⟶ makes (input ∷ input ∷ input ∷ operation 0 3 1 ∷ operation 2 5 4 ∷ operation 2 4 3 ∷ operation 7 6 4 ∷ output 8 ∷ output 6 ∷ [])
+    ∷ translate Once P8 ⟶ makes (input ∷ input ∷ input ∷ operation 0 3 1 ∷ operation 2 5 4 ∷ operation 2 4 3 ∷ operation 7 6 4 ∷ output 8 ∷ output 6 ∷ [])
     -- P9: an empty table. P10: 12 bytes
     ∷ whole [] ⟶ refusal (why 3)
     ∷ check (replicate 12 0) 12 ⟶ refusal (why 1)
