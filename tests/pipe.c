@@ -150,17 +150,27 @@ static unsigned rm3_depth(size_t length)
     return depth;
 }
 
-/* The RM3 table's depth is asked for here too: it is that of the bytes written. */
-static void translate(size_t used)
+/* An RM3 table that was written to out. Its depth is asked for here too: it is that of the bytes written, in both modes. */
+static void put_written(size_t used, struct pulpgarnet_written r)
 {
-    get_part(&out);
-    struct pulpgarnet_written r = pulpgarnet_translate(table.bytes, table.length, used, out.bytes, out.length);
     struct pulpgarnet_deep d = pulpgarnet_rm3_depth(table.bytes, table.length, used);
     if (r.refusal == 0 && (d.refusal != 0 || d.depth != rm3_depth(r.length)))
         end("the depth of the RM3 table is not that of the bytes written");
     put_refusal(r.refusal, r.record, r.edge);
     put_number(r.length);
     put_part(&out);
+}
+
+static void translate(size_t used)
+{
+    get_part(&out);
+    put_written(used, pulpgarnet_translate(table.bytes, table.length, used, out.bytes, out.length));
+}
+
+static void translate_anew(size_t used)
+{
+    get_part(&out);
+    put_written(used, pulpgarnet_translate_anew(table.bytes, table.length, used, out.bytes, out.length));
 }
 
 /* An operation on a table: its used length and the table come first. */
@@ -186,15 +196,15 @@ static void on_reading(int evaluated)
 
 int main(void)
 {
-    static void (*const calls[])(size_t) = {check, evaluate, report, step, run, translate};
+    static void (*const calls[])(size_t) = {
+        [1] = check, [2] = evaluate, [3] = report, [4] = step, [5] = run, [6] = translate_anew, [16] = translate, [28] = follow,
+    };
     uint8_t operation;
     while (fread(&operation, 1, 1, stdin) == 1) {
-        if (operation >= 1 && operation <= sizeof calls / sizeof *calls)
-            on_table(calls[operation - 1]);
+        if (operation < sizeof calls / sizeof *calls && calls[operation] != 0)
+            on_table(calls[operation]);
         else if (operation == 7 || operation == 8)
             on_reading(operation == 7);
-        else if (operation == 28)
-            on_table(follow);
         else
             end("there is no such operation");
         fflush(stdout);

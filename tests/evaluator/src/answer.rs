@@ -74,10 +74,10 @@ pub fn answer(request: &Request) -> Answer {
             let mut buffer = stored.table.buffer.clone();
             Answer::of_script(stored.run(&mut buffer), buffer)
         }
-        Request::Rm3(table, out) => {
+        Request::Rm3(mode, table, out) => {
             let mut out = out.clone();
             let written = table.network().and_then(|network| {
-                let bytes = translate(&network).bytes();
+                let bytes = translate(&network, *mode).bytes();
                 let place = out.get_mut(..bytes.len()).ok_or(Refusal::plain(11))?;
                 place.copy_from_slice(&bytes);
                 Ok([bytes.len() as u32])

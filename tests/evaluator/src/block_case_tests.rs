@@ -4,7 +4,7 @@ use crate::answer::{answer, Answer};
 use crate::block_tests::blocks;
 use crate::cases::Dealer;
 use crate::request::{operations, Request, Table};
-use crate::rm3::{class, translate, Class, Operation, Rm3};
+use crate::rm3::{class, translate, Class, Mode, Operation, Rm3};
 use crate::step::{apply, lay, Step};
 use crate::table::{block_of, kind_of, read, record_bytes, Gate, Network, Record, Refusal};
 use crate::tests::{against, GATE};
@@ -114,7 +114,8 @@ fn every_way_of_blocks_is_dealt() {
         .into_iter()
         .flat_map(|operation| tables.split("; ").map(move |mark| (operation, mark.to_string())));
     let of_steps = shares.chain(within).chain(high).chain(alone).map(|mark| (4, mark));
-    let wanted = of_tables.chain(of_steps).chain(helpers.map(|mark| (6, mark)));
+    let of_helpers = helpers.flat_map(|mark| [(6, mark.clone()), (16, mark)]);
+    let wanted = of_tables.chain(of_steps).chain(of_helpers);
     let never: Vec<_> = wanted.filter(|mark| !met.contains_key(mark)).collect();
     assert!(never.is_empty(), "never dealt: {never:?} of {met:?}");
 }
@@ -168,12 +169,12 @@ fn asked_of(request: &Request, change: impl Fn(&mut Vec<Record>)) -> Answer {
     }
 }
 
-/// The answer of a program whose RM3 table has other blocks.
+/// The answer of a program whose RM3 table has other blocks, where helpers are made anew.
 fn with_rm3(request: &Request, own: Answer, slip: fn(&Network, &mut Rm3)) -> Answer {
     match request {
-        Request::Rm3(table, _) if own.refusal.is_none() => {
+        Request::Rm3(Mode::Anew, table, _) if own.refusal.is_none() => {
             let network = table.network().unwrap();
-            let mut rm3 = translate(&network);
+            let mut rm3 = translate(&network, Mode::Anew);
             slip(&network, &mut rm3);
             let mut bytes = own.bytes;
             bytes[..own.numbers[0] as usize].copy_from_slice(&rm3.bytes());

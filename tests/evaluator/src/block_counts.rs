@@ -1,8 +1,10 @@
 //! What a run met of blocks.
 
 use crate::answer::Answer;
+use crate::counts::add;
+use crate::needs::{made, By};
 use crate::request::{Request, PAST_OPERATIONS};
-use crate::rm3::{class, Class};
+use crate::rm3::Mode;
 use crate::step::{Step, LAST_RULE};
 use crate::table::{block_of, kind_of, Gate, Network, Record, Refusal};
 
@@ -46,11 +48,7 @@ pub struct BlockCounts {
     steps: [usize; STEPS.len()],
     /// Single steps that were refused with 7, by the rule that the low byte of their number would be.
     high_bytes: [usize; RULES + 1],
-    helpers: [usize; HELPERS.len()],
-}
-
-fn add<const N: usize>(counts: &mut [usize; N], met: [bool; N]) {
-    counts.iter_mut().zip(met).for_each(|(count, met)| *count += usize::from(met));
+    helpers: [[usize; HELPERS.len()]; PAST_OPERATIONS],
 }
 
 fn blocks(network: &Network) -> [bool; BLOCKS.len()] {
@@ -105,16 +103,11 @@ fn steps(network: &Network, step: Step, refusal: Option<Refusal>) -> [bool; STEP
     ]
 }
 
-/// Whether the gate needs a helper: for an inverted edge after the first, or for its middle where all three are plain.
-fn needs_helper(gate: &Gate) -> bool {
-    let classes = gate.edges.map(class);
-    classes.iter().filter(|&&class| class == Class::Inverted).count() > 1 || classes == [Class::Plain; 3]
-}
-
-fn helpers(network: &Network) -> [bool; HELPERS.len()] {
-    let helped = |wanted: fn(u8) -> bool| network.gates.iter().any(|gate| needs_helper(gate) && wanted(gate.block));
+fn helpers(network: &Network, mode: Mode) -> [bool; HELPERS.len()] {
+    let made = made(network, mode);
+    let helped = |wanted: fn(u8) -> bool| made.iter().any(|need| need.by != By::Output && wanted(need.block));
     let blocks = network.gates.iter().any(|gate| gate.block != 0);
-    let outputs = network.outputs.iter().any(|&edge| class(edge) == Class::Inverted);
+    let outputs = made.iter().any(|need| need.by == By::Output);
     [helped(|block| block == 0), helped(|block| block != 0), blocks && outputs]
 }
 
@@ -138,7 +131,9 @@ impl BlockCounts {
                     self.high_bytes[low] += 1;
                 }
             }
-            Request::Rm3(..) if answer.refusal.is_none() => add(&mut self.helpers, helpers(&network)),
+            Request::Rm3(mode, ..) if answer.refusal.is_none() => {
+                add(&mut self.helpers[operation], helpers(&network, *mode));
+            }
             _ => {}
         }
     }
@@ -157,8 +152,8 @@ impl BlockCounts {
             let never = (1..=RULES).filter(|&rule| self.high_bytes[rule] == 0);
             lines.extend(never.map(|rule| format!("never met: rule {rule} with a high byte")));
         }
-        if operation == 6 {
-            lines.extend(each(&HELPERS, &self.helpers, HELPERS.len()));
+        if operation == 6 || operation == 16 {
+            lines.extend(each(&HELPERS, &self.helpers[place], HELPERS.len()));
         }
         lines
     }
@@ -180,8 +175,9 @@ impl BlockCounts {
             let high: usize = self.high_bytes.iter().sum();
             lines.push(format!("single steps with a high byte in a rule's number: {high}"));
         }
-        if asked.contains(&6) {
-            lines.push(format!("RM3 tables: {}", listed(&HELPERS, &self.helpers)));
+        for operation in asked.iter().filter(|&&operation| operation == 6 || operation == 16) {
+            let helpers = listed(&HELPERS, &self.helpers[usize::from(*operation)]);
+            lines.push(format!("RM3 tables of operation {operation}: {helpers}"));
         }
         lines
     }

@@ -1,6 +1,6 @@
 //! Blocks: which records may have one, and what steps and the translation make of them.
 
-use crate::rm3::{translate, Operation, Rm3};
+use crate::rm3::{translate, Mode, Operation, Rm3};
 use crate::sheet::network;
 use crate::step::{apply, Step};
 use crate::table::{read, record_bytes, records, Network, Record, Refusal};
@@ -113,11 +113,11 @@ fn rules_have_no_high_byte() {
     }
 }
 
-/// A gate's operation and its helpers have its block, an output's helper has 0.
+/// A gate's operation and its helpers have its block, an output's helper has 0, where each is made anew.
 #[test]
 fn blocks_of_the_translation() {
     let before = of_blocks(network(3, [[2, 4, 6], [3, 5, 7], [0, 8, 10]], &[13, 12, 3, 0]), [1, 255, 0]);
-    let Rm3 { operations, .. } = translate(&before);
+    let Rm3 { operations, .. } = translate(&before, Mode::Anew);
     let listed = [
         (1, [0, 3, 1]),
         (1, [2, 5, 4]),
@@ -129,9 +129,9 @@ fn blocks_of_the_translation() {
         (0, [0, 2, 1]),
     ];
     assert_eq!(operations, listed.map(|(block, operands)| Operation { block, operands }));
-    let bytes = translate(&before).bytes();
+    let bytes = translate(&before, Mode::Anew).bytes();
     let kinds: Vec<u16> = records(&bytes).iter().map(|record| record[0]).collect();
     let high = [1, 1, 255, 255, 255, 0, 0, 0].map(|block| 256 * block + 4);
     assert_eq!(kinds, [&[1; 3], &high[..], &[3; 4]].concat());
-    assert_eq!(Rm3::read(&bytes), Some(translate(&before)));
+    assert_eq!(Rm3::read(&bytes), Some(translate(&before, Mode::Anew)));
 }

@@ -1,10 +1,11 @@
-//! What a run met: requests, accepted ones, rules, refusals with their edges, first two edges, stored scripts, RM3 patterns, followed
-//! gates.
+//! What a run met: requests, accepted ones, rules, refusals with their edges, first two edges, stored scripts, RM3 patterns and helpers,
+//! followed gates.
 
 use crate::answer::Answer;
 use crate::block_counts::BlockCounts;
 use crate::depth_counts::DepthCounts;
 use crate::follow_counts::FollowCounts;
+use crate::helper_counts::HelperCounts;
 use crate::request::{call, operations, Request, PAST_OPERATIONS};
 use crate::rm3::class;
 use crate::step::{FirstTwo, Step, LAST_RULE};
@@ -31,7 +32,9 @@ pub struct Counts {
     first_two: [[usize; 3]; 2],
     stored: StoredCounts,
     follow: FollowCounts,
-    patterns: [usize; 27],
+    /// Gates of translated tables, by operation and the classes of their edges.
+    patterns: [[usize; 27]; PAST_OPERATIONS],
+    helpers: HelperCounts,
     longest: u32,
     depths: DepthCounts,
     blocks: BlockCounts,
@@ -43,7 +46,7 @@ pub fn possible(operation: u8) -> &'static [usize] {
         2 | 7 => &[1, 2, 3, 4, 5, 6],
         4 => &[1, 2, 3, 4, 5, 7, 8, 9, 10, 11],
         5 | 28 => &[1, 2, 3, 4, 5, 7, 8, 9, 10, 11, 12],
-        6 => &[1, 2, 3, 4, 5, 11],
+        6 | 16 => &[1, 2, 3, 4, 5, 11],
         _ => &[1, 2, 3, 4, 5],
     }
 }
@@ -67,6 +70,11 @@ fn rule_of(step: Step) -> usize {
     }
 }
 
+/// Counts one more of each that was met.
+pub fn add<const N: usize>(counts: &mut [usize; N], met: [bool; N]) {
+    counts.iter_mut().zip(met).for_each(|(count, met)| *count += usize::from(met));
+}
+
 impl Counts {
     pub fn passed(&self) -> usize {
         self.asked.iter().sum()
@@ -84,6 +92,7 @@ impl Counts {
         }
         self.depths.note(request, answer);
         self.blocks.note(request, answer);
+        self.helpers.note(request, answer);
         match request {
             Request::Step(table, step) => {
                 match answer.refusal {
@@ -109,10 +118,10 @@ impl Counts {
                 }
                 self.follow.note(follow, answer);
             }
-            Request::Rm3(table, _) if answer.refusal.is_none() => {
+            Request::Rm3(_, table, _) if answer.refusal.is_none() => {
                 for gate in table.network().iter().flat_map(|network| &network.gates) {
                     let [first, second, third] = gate.edges.map(|edge| class(edge) as usize);
-                    self.patterns[9 * first + 3 * second + third] += 1;
+                    self.patterns[operation][9 * first + 3 * second + third] += 1;
                 }
             }
             _ => {}
@@ -157,8 +166,11 @@ impl Counts {
             if operation == 28 {
                 lines.extend(self.follow.never_met());
             }
-            if operation == 6 && self.patterns.contains(&0) {
-                lines.push("never met: one of the 27 RM3 patterns".to_string());
+            if operation == 6 || operation == 16 {
+                if self.patterns[place].contains(&0) {
+                    lines.push(format!("never met: one of the 27 RM3 patterns, by operation {operation}"));
+                }
+                lines.extend(self.helpers.never_met(operation));
             }
             lines.extend(self.depths.never_met(operation));
             lines.extend(self.blocks.never_met(operation));
@@ -203,9 +215,10 @@ impl Counts {
         if asked.contains(&28) {
             lines.extend(self.follow.report());
         }
-        if asked.contains(&6) {
-            let met = self.patterns.iter().filter(|&&count| count > 0).count();
-            lines.push(format!("RM3 patterns: {met} of 27"));
+        for &operation in asked.iter().filter(|&&operation| operation == 6 || operation == 16) {
+            let met = self.patterns[usize::from(operation)].iter().filter(|&&count| count > 0).count();
+            lines.push(format!("RM3 patterns of operation {operation}: {met} of 27"));
+            lines.extend(self.helpers.report(operation));
         }
         lines.extend(self.depths.report(&asked));
         lines.extend(self.blocks.report(&asked));

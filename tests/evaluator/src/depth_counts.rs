@@ -6,7 +6,7 @@ use crate::rm3::translate;
 use crate::value::{depth, highest_level};
 
 /// The operations of which depth is asked, or whose results have limits of depth.
-const OPERATIONS: [u8; 5] = [3, 4, 5, 6, 8];
+const OPERATIONS: [u8; 6] = [3, 4, 5, 6, 8, 16];
 
 #[derive(Default)]
 pub struct DepthCounts {
@@ -21,8 +21,8 @@ fn depths(request: &Request) -> Option<[u32; 2]> {
     let network = match request {
         Request::Report(table) | Request::Step(table, _) | Request::Script(table, _) => table.network().ok()?,
         Request::ReadingReport(reading) => reading.network().ok()?,
-        Request::Rm3(table, _) => {
-            let rm3 = translate(&table.network().ok()?);
+        Request::Rm3(mode, table, _) => {
+            let rm3 = translate(&table.network().ok()?, *mode);
             return Some([rm3.depth(), rm3.highest_level()]);
         }
         _ => return None,

@@ -5,7 +5,7 @@ use crate::cases::{networks, Dealer};
 use crate::depth_kept::{depth_fault, keeps_depth, may_raise};
 use crate::random::Random;
 use crate::request::{Request, Table};
-use crate::rm3::translate;
+use crate::rm3::{translate, Mode};
 use crate::sheet::network;
 use crate::step::{apply, Step};
 use crate::table::{record_bytes, records, Network};
@@ -27,7 +27,8 @@ fn follow(before: &Network, step: Step, room: usize) -> Option<Network> {
         assert!(levels.iter().all(|(before, after)| after == before), "{before:?} {step:?}");
     }
     if step.rule == 8 {
-        assert_eq!(translate(&after).depth(), translate(before).depth(), "{before:?}");
+        let depths = [&after, before].map(|network| translate(network, Mode::Once).depth());
+        assert_eq!(depths[0], depths[1], "{before:?}");
         assert_eq!(highest_level(&after), depth(before), "{before:?}");
     }
     Some(after)
@@ -99,8 +100,10 @@ fn rm3_tables_keep_depth() {
     let mut random = Random::new(8);
     for _ in 0..3000 {
         let network = networks::small(&mut random);
-        let rm3 = translate(&network);
-        assert!((depth(&network)..=2 * depth(&network) + 1).contains(&rm3.depth()), "{network:?}");
-        assert_eq!(translate(&swept(&network)).depth(), rm3.depth(), "{network:?}");
+        for mode in [Mode::Once, Mode::Anew] {
+            let rm3 = translate(&network, mode);
+            assert!((depth(&network)..=2 * depth(&network) + 1).contains(&rm3.depth()), "{network:?}");
+            assert_eq!(translate(&swept(&network), mode).depth(), rm3.depth(), "{network:?}");
+        }
     }
 }

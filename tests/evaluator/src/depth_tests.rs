@@ -5,7 +5,7 @@ use crate::answer::{answer, Answer};
 use crate::cases::Dealer;
 use crate::depth_kept_tests::swept;
 use crate::request::{operations, Request, Table};
-use crate::rm3::{class, translate, Class};
+use crate::rm3::{class, translate, Class, Mode};
 use crate::sheet::network;
 use crate::table::Network;
 use crate::tests::{against, GATE};
@@ -39,18 +39,20 @@ fn depth_of_what_outputs_name() {
     assert_eq!((report(&before), report(&after)), (vec![1, 1], vec![1, 0]));
 }
 
-/// The same of RM3 tables: the helper of an inverted output stands one level above what it inverts.
+/// The same of RM3 tables: the helper of an inverted output stands one level above what it inverts. Depth is the same whether a
+/// helper is reused or not.
 #[test]
 fn rm3_depth_of_what_outputs_name() {
     let listed = |network: Network| {
-        let rm3 = translate(&network);
-        (rm3.operations.len(), rm3.depth())
+        let [once, anew] = [Mode::Once, Mode::Anew].map(|mode| translate(&network, mode));
+        assert_eq!(once.depth(), anew.depth());
+        ([once.operations.len(), anew.operations.len()], once.depth())
     };
-    assert_eq!(listed(network(1, [[3, 3, 3]], &[3, 3])), (5, 1));
-    assert_eq!(listed(network(1, [[3, 3, 3]], &[2, 1])), (3, 0));
-    assert_eq!(listed(network(3, [[2, 4, 6], [8, 8, 8]], &[8])), (4, 2));
-    assert_eq!(listed(network(3, [[2, 4, 6], [8, 8, 8]], &[9])), (5, 3));
-    assert_eq!(listed(network(3, [[2, 4, 6], [8, 8, 8]], &[3, 10, 9])), (6, 4));
+    assert_eq!(listed(network(1, [[3, 3, 3]], &[3, 3])), ([2, 5], 1));
+    assert_eq!(listed(network(1, [[3, 3, 3]], &[2, 1])), ([2, 3], 0));
+    assert_eq!(listed(network(3, [[2, 4, 6], [8, 8, 8]], &[8])), ([4, 4], 2));
+    assert_eq!(listed(network(3, [[2, 4, 6], [8, 8, 8]], &[9])), ([4, 5], 3));
+    assert_eq!(listed(network(3, [[2, 4, 6], [8, 8, 8]], &[3, 10, 9])), ([5, 6], 4));
 }
 
 /// What depth is told by, of an accepted table.
@@ -92,12 +94,12 @@ fn marks(network: &Network) -> Vec<&'static str> {
 }
 
 /// What the depth of an RM3 table is told by.
-fn rm3_marks(network: &Network) -> Vec<&'static str> {
-    let rm3 = translate(network);
+fn rm3_marks(network: &Network, mode: Mode) -> Vec<&'static str> {
+    let rm3 = translate(network, mode);
     let (depth, deep, highest) = (depth(network), rm3.depth(), rm3.highest_level());
     let plain: Vec<_> = network.outputs.iter().copied().filter(|&edge| class(edge) != Class::Inverted).collect();
     let helped = plain.len() < network.outputs.len();
-    let without_helpers = translate(&Network { outputs: plain, ..network.clone() }).depth();
+    let without_helpers = translate(&Network { outputs: plain, ..network.clone() }, mode).depth();
     let all = [
         ("operations above", deep > 0 && highest > deep),
         ("operations, and depth 0", deep == 0 && highest > 0),
@@ -111,7 +113,8 @@ fn rm3_marks(network: &Network) -> Vec<&'static str> {
     all.iter().filter(|mark| mark.1).map(|mark| mark.0).collect()
 }
 
-/// The gate's requests deal every kind of table that depth tells apart, to both reports and to the translation.
+/// The gate's requests deal every kind of table that depth tells apart, to both reports and to both modes of the
+/// translation.
 #[test]
 fn every_depth_is_dealt() {
     let mut dealer = Dealer::new(1, &operations());
@@ -121,7 +124,7 @@ fn every_depth_is_dealt() {
         let marks = match &request {
             Request::Report(table) => table.network().map(|network| marks(&network)),
             Request::ReadingReport(reading) => reading.network().map(|network| marks(&network)),
-            Request::Rm3(table, _) => table.network().map(|network| rm3_marks(&network)),
+            Request::Rm3(mode, table, _) => table.network().map(|network| rm3_marks(&network, *mode)),
             _ => continue,
         };
         for mark in marks.unwrap_or_default() {
@@ -136,7 +139,7 @@ fn every_depth_is_dealt() {
         an output's helper decides; an output's helper stands below depth; twice and one more; \
         twice and one more, of 1,024 gates; as deep as its table";
     let wanted = [3, 8].into_iter().flat_map(|operation| wanted.split("; ").map(move |mark| (operation, mark)));
-    let wanted = wanted.chain(of_rm3.split("; ").map(|mark| (6, mark)));
+    let wanted = wanted.chain(of_rm3.split("; ").flat_map(|mark| [(6, mark), (16, mark)]));
     let rare = |mark: &str| ["1000", "thousand", "1,024", "of 32"].iter().any(|word| mark.contains(word));
     let count = |mark: &(u8, &str)| met.get(mark).copied().unwrap_or(0);
     let never: Vec<_> = wanted.filter(|mark| count(mark) < if rare(mark.1) { 1 } else { 2 }).collect();

@@ -3,7 +3,7 @@
 use crate::answer::{number_names, Answer};
 use crate::random::Random;
 use crate::request::{call, Request};
-use crate::rm3::Rm3;
+use crate::rm3::{translate, Mode, Rm3};
 use crate::value::{depth, outputs, some_assignments};
 
 /// Bytes in hex, the first ones of a long part only.
@@ -65,9 +65,10 @@ pub fn differences(request: &Request, answer: &Answer, reply: &[u8]) -> Vec<Stri
     lines
 }
 
-/// What is wrong with the RM3 bytes of a reply that was as expected: its worth, its count of operations, its depth.
+/// What is wrong with the RM3 bytes of a reply that was as expected: its worth, its count of operations, its depth. Where helpers
+/// are reused there are no more operations than where they are made anew, and the depth is the same.
 pub fn rm3_faults(request: &Request, answer: &Answer, random: &mut Random) -> Option<String> {
-    let Request::Rm3(table, _) = request else {
+    let Request::Rm3(_, table, _) = request else {
         return None;
     };
     let network = table.network().ok().filter(|_| answer.refusal.is_none())?;
@@ -81,6 +82,14 @@ pub fn rm3_faults(request: &Request, answer: &Answer, random: &mut Random) -> Op
     let deepest = 2 * depth(&network) + 1;
     if rm3.depth() > deepest {
         return Some(format!("RM3 depth {}, at most {deepest} allowed", rm3.depth()));
+    }
+    let [once, anew] = [Mode::Once, Mode::Anew].map(|mode| translate(&network, mode));
+    let (fewer, more) = (once.operations.len(), anew.operations.len());
+    if !(fewer..=more).contains(&rm3.operations.len()) {
+        return Some(format!("{} RM3 operations, from {fewer} to {more} allowed", rm3.operations.len()));
+    }
+    if once.depth() != anew.depth() {
+        return Some(format!("RM3 depth {} where helpers are reused, {} anew", once.depth(), anew.depth()));
     }
     let wrong = |&assignment: &u32| outputs(&network, assignment) != rm3.values(assignment);
     let assignment = some_assignments(random, network.inputs).into_iter().find(wrong)?;

@@ -2,6 +2,7 @@
 
 use crate::follow::Follow;
 use crate::reading::Reading;
+use crate::rm3::Mode;
 use crate::step::Step;
 use crate::stored::Stored;
 use crate::table::{read, records, Network, Record, Refusal};
@@ -34,22 +35,23 @@ pub enum Request {
     Script(Table, Vec<u8>),
     /// A stored script: it is sent as it was converted, and must do what it did before that.
     Stored(Stored),
-    Rm3(Table, Vec<u8>),
+    Rm3(Mode, Table, Vec<u8>),
     ReadingEvaluate(Reading, u32),
     ReadingReport(Reading),
     Follow(Follow),
 }
 
 /// The operations and their calls.
-const CALLS: [(u8, &str); 9] = [
+const CALLS: [(u8, &str); 10] = [
     (1, "check"),
     (2, "evaluate"),
     (3, "report"),
     (4, "step"),
     (5, "script"),
-    (6, "RM3 table"),
+    (6, "RM3 table, helpers anew"),
     (7, "evaluate through a reading"),
     (8, "report through a reading"),
+    (16, "RM3 table"),
     (28, "follow"),
 ];
 
@@ -89,9 +91,10 @@ impl Request {
             Request::Report(..) => 3,
             Request::Step(..) => 4,
             Request::Script(..) | Request::Stored(_) => 5,
-            Request::Rm3(..) => 6,
+            Request::Rm3(Mode::Anew, ..) => 6,
             Request::ReadingEvaluate(..) => 7,
             Request::ReadingReport(..) => 8,
+            Request::Rm3(Mode::Once, ..) => 16,
             Request::Follow(_) => 28,
         }
     }
@@ -105,7 +108,7 @@ impl Request {
             | Request::Script(table, _)
             | Request::Stored(Stored { table, .. })
             | Request::Follow(Follow { table, .. })
-            | Request::Rm3(table, _) => Subject::Table(table),
+            | Request::Rm3(_, table, _) => Subject::Table(table),
             Request::ReadingEvaluate(reading, _) | Request::ReadingReport(reading) => Subject::Reading(reading),
         }
     }
@@ -156,7 +159,7 @@ impl Request {
                 parts.push(number("count", places.len() as u32));
                 parts.push(("places", place_bytes(places)));
             }
-            Request::Rm3(_, out) => parts.extend(lent("out", out)),
+            Request::Rm3(_, _, out) => parts.extend(lent("out", out)),
             Request::Check(_) | Request::Report(_) | Request::ReadingReport(_) => {}
         }
         parts

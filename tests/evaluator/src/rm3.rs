@@ -1,6 +1,7 @@
-//! RM3: the translation of a network, and a reader and evaluator of RM3 bytes.
+//! RM3: the translation of a network in its two modes, and a reader and evaluator of RM3 bytes.
 
 use crate::table::{block_of, kind_of, of_kind_and_block, record_bytes, records, Edge, Gate, Network};
+use std::collections::HashMap;
 
 /// An operation, worth the majority of x, not y and z, with the number of the block that it belongs to.
 #[derive(Clone, Copy, PartialEq, Eq, Debug)]
@@ -32,31 +33,22 @@ pub fn class(edge: Edge) -> Class {
     }
 }
 
+/// The middle place of a gate, counted from 0.
+pub fn middle(gate: &Gate) -> usize {
+    let first = |wanted| gate.edges.iter().position(|&edge| class(edge) == wanted);
+    first(Class::Inverted).or(first(Class::Constant)).unwrap_or(1)
+}
+
+/// Whether a helper is reused.
+#[derive(Clone, Copy, PartialEq, Eq, Debug)]
+pub enum Mode {
+    /// A node's helper is made at the first need of it, and reused after.
+    Once,
+    /// Each need makes a helper of its own.
+    Anew,
+}
+
 impl Rm3 {
-    /// Adds an operation and gives its operand number.
-    fn add(&mut self, block: u8, operands: [usize; 3]) -> usize {
-        self.operations.push(Operation { block, operands });
-        self.inputs + 1 + self.operations.len()
-    }
-
-    /// Adds the helpers and the operation of one gate, which all belong to its block; `operand` holds the operand of each node
-    /// below it.
-    fn add_gate(&mut self, gate: &Gate, operand: &[usize]) -> usize {
-        let first = |wanted| gate.edges.iter().position(|&edge| class(edge) == wanted);
-        let middle = first(Class::Inverted).or(first(Class::Constant)).unwrap_or(1);
-        let mut operands = [0; 3];
-        for (place, &edge) in gate.edges.iter().enumerate() {
-            let node = operand[edge.node];
-            operands[place] = match (class(edge), place == middle) {
-                (Class::Constant, is_middle) => usize::from(edge.inverted != is_middle),
-                (Class::Plain, false) | (Class::Inverted, true) => node,
-                (Class::Plain, true) | (Class::Inverted, false) => self.add(gate.block, [0, node, 1]),
-            };
-        }
-        let others = [[1, 2], [0, 2], [0, 1]][middle];
-        self.add(gate.block, [operands[others[0]], operands[middle], operands[others[1]]])
-    }
-
     /// The RM3 network in these bytes, or none where they are no RM3 table.
     pub fn read(bytes: &[u8]) -> Option<Rm3> {
         let records = records(bytes);
@@ -120,20 +112,65 @@ impl Rm3 {
     }
 }
 
-pub fn translate(network: &Network) -> Rm3 {
-    let mut rm3 = Rm3 { inputs: network.inputs, operations: Vec::new(), outputs: Vec::new() };
-    let mut operand: Vec<usize> = [0].into_iter().chain(2..network.inputs + 2).collect();
-    for gate in &network.gates {
-        let own = rm3.add_gate(gate, &operand);
-        operand.push(own);
+/// A translation under way.
+struct Translation {
+    mode: Mode,
+    rm3: Rm3,
+    /// The operand of each node that there is so far.
+    operand: Vec<usize>,
+    /// The operand of a node's helper, for the nodes that have one.
+    helper: HashMap<usize, usize>,
+}
+
+impl Translation {
+    /// Adds an operation and gives its operand number.
+    fn add(&mut self, block: u8, operands: [usize; 3]) -> usize {
+        self.rm3.operations.push(Operation { block, operands });
+        self.rm3.inputs + 1 + self.rm3.operations.len()
     }
-    for &edge in &network.outputs {
+
+    /// The operand of a node's helper; where one is made, it belongs to this block.
+    fn helper(&mut self, block: u8, node: usize) -> usize {
+        if let (Mode::Once, Some(&helper)) = (self.mode, self.helper.get(&node)) {
+            return helper;
+        }
+        let helper = self.add(block, [0, self.operand[node], 1]);
+        self.helper.insert(node, helper);
+        helper
+    }
+
+    /// Adds the helpers of one gate, which belong to its block, and its operation.
+    fn add_gate(&mut self, gate: &Gate) {
+        let middle = middle(gate);
+        let mut operands = [0; 3];
+        for (place, &edge) in gate.edges.iter().enumerate() {
+            operands[place] = match (class(edge), place == middle) {
+                (Class::Constant, is_middle) => usize::from(edge.inverted != is_middle),
+                (Class::Plain, false) | (Class::Inverted, true) => self.operand[edge.node],
+                (Class::Plain, true) | (Class::Inverted, false) => self.helper(gate.block, edge.node),
+            };
+        }
+        let others = [[1, 2], [0, 2], [0, 1]][middle];
+        let own = self.add(gate.block, [operands[others[0]], operands[middle], operands[others[1]]]);
+        self.operand.push(own);
+    }
+
+    /// Adds an output, with its helper, which belongs to block 0.
+    fn add_output(&mut self, edge: Edge) {
         let own = match class(edge) {
             Class::Constant => usize::from(edge.inverted),
-            Class::Plain => operand[edge.node],
-            Class::Inverted => rm3.add(0, [0, operand[edge.node], 1]),
+            Class::Plain => self.operand[edge.node],
+            Class::Inverted => self.helper(0, edge.node),
         };
-        rm3.outputs.push(own);
+        self.rm3.outputs.push(own);
     }
-    rm3
+}
+
+pub fn translate(network: &Network, mode: Mode) -> Rm3 {
+    let rm3 = Rm3 { inputs: network.inputs, operations: Vec::new(), outputs: Vec::new() };
+    let operand = [0].into_iter().chain(2..network.inputs + 2).collect();
+    let mut translation = Translation { mode, rm3, operand, helper: HashMap::new() };
+    network.gates.iter().for_each(|gate| translation.add_gate(gate));
+    network.outputs.iter().for_each(|&edge| translation.add_output(edge));
+    translation.rm3
 }

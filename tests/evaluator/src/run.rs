@@ -21,9 +21,9 @@ pub struct Difference {
     pub request: Request,
 }
 
-/// From this many requests on, a run must meet every refusal, bad edge and rule that its operations can meet, and gates
-/// that no output reaches.
-pub const ENOUGH: usize = 2000;
+/// From this many requests on, a run must meet every refusal, bad edge and rule that its operations can meet, gates that no
+/// output reaches, and helpers that are reused.
+pub const ENOUGH: usize = 2500;
 
 /// How a run asks: the request and the length of its reply, which comes back whole or as what went wrong.
 pub type Ask<'a> = &'a mut dyn FnMut(&Request, usize) -> Result<Vec<u8>, String>;

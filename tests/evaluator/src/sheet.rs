@@ -3,7 +3,7 @@
 use crate::answer::{answer, Answer};
 use crate::reading::Reading;
 use crate::request::{Request, Table};
-use crate::rm3::{translate, Operation, Rm3};
+use crate::rm3::{translate, Mode, Operation, Rm3};
 use crate::script::{run, Progress};
 use crate::step::{apply, Step};
 use crate::table::{read, record_bytes, Edge, Gate, Network, Record, Refusal};
@@ -48,6 +48,13 @@ fn rm3(inputs: usize, operations: &[[usize; 3]], outputs: &[usize]) -> Rm3 {
     Rm3 { inputs, operations, outputs: outputs.to_vec() }
 }
 
+/// The network's RM3 network, which both modes make alike.
+fn alike(network: &Network) -> Rm3 {
+    let [once, anew] = [Mode::Once, Mode::Anew].map(|mode| translate(network, mode));
+    assert_eq!(once, anew);
+    once
+}
+
 fn adder() -> Network {
     network(3, [[2, 4, 6], [2, 4, 7], [9, 10, 6]], &[12, 8])
 }
@@ -56,7 +63,7 @@ fn adder() -> Network {
 fn p1() {
     let p1 = network(2, [[0, 2, 4]], &[6]);
     assert_eq!(values(&p1), [0, 0, 0, 1]);
-    assert_eq!(translate(&p1), rm3(2, &[[2, 1, 3]], &[4]));
+    assert_eq!(alike(&p1), rm3(2, &[[2, 1, 3]], &[4]));
     let records = [[1, 0, 0, 0], [1, 0, 0, 0], [2, 0, 2, 4], [3, 6, 0, 0]];
     assert_eq!(check(&records), Ok(p1));
 }
@@ -65,20 +72,20 @@ fn p1() {
 fn p2_and_p3() {
     let p2 = network(3, [[2, 4, 6]], &[8]);
     assert_eq!(values(&p2), [0, 0, 0, 1, 0, 1, 1, 1]);
-    assert_eq!(translate(&p2), rm3(3, &[[0, 3, 1], [2, 5, 4]], &[6]));
+    assert_eq!(alike(&p2), rm3(3, &[[0, 3, 1], [2, 5, 4]], &[6]));
     let p3 = network(3, [[3, 5, 7]], &[8]);
-    assert_eq!(translate(&p3), rm3(3, &[[0, 3, 1], [0, 4, 1], [5, 2, 6]], &[7]));
+    assert_eq!(alike(&p3), rm3(3, &[[0, 3, 1], [0, 4, 1], [5, 2, 6]], &[7]));
 }
 
 #[test]
 fn p4_and_p5() {
     let p4 = network(1, [[2, 2, 0]], &[5]);
-    assert_eq!(translate(&p4), rm3(1, &[[2, 1, 2], [0, 3, 1]], &[4]));
+    assert_eq!(alike(&p4), rm3(1, &[[2, 1, 2], [0, 3, 1]], &[4]));
     let after = step(&p4, 2, 2).unwrap();
     assert_eq!(after, network(1, [[2, 2, 0]], &[3]));
     let swept = step(&after, 8, 0).unwrap();
     assert_eq!(swept, network(1, [], &[3]));
-    assert_eq!(translate(&swept), rm3(1, &[[0, 2, 1]], &[3]));
+    assert_eq!(alike(&swept), rm3(1, &[[0, 2, 1]], &[3]));
     let p5 = network(1, [[2, 3, 0]], &[5]);
     assert_eq!(step(&p5, 10, 2), Ok(network(1, [[2, 3, 0]], &[1])));
 }
@@ -99,7 +106,7 @@ fn p8_and_its_rm3_listing() {
     assert_eq!(values(&adder()), [0, 1, 1, 2, 1, 2, 2, 3]);
     assert_eq!((size(&adder()), depth(&adder())), (3, 2));
     let listing = rm3(3, &[[0, 3, 1], [2, 5, 4], [2, 4, 3], [7, 6, 4]], &[8, 6]);
-    assert_eq!((translate(&adder()), listing.depth()), (listing.clone(), 3));
+    assert_eq!((alike(&adder()), listing.depth()), (listing.clone(), 3));
     assert_eq!(Rm3::read(&listing.bytes()), Some(listing));
 }
 
@@ -176,7 +183,8 @@ fn bad_edge_of_every_call() {
         (Request::Report(bad()), vec![0, 0], vec![]),
         (Request::Step(bad(), step), vec![0], bytes.clone()),
         (Request::Script(bad(), vec![0]), vec![0, 24], bytes),
-        (Request::Rm3(bad(), vec![9]), vec![0], vec![9]),
+        (Request::Rm3(Mode::Anew, bad(), vec![9]), vec![0], vec![9]),
+        (Request::Rm3(Mode::Once, bad(), vec![9]), vec![0], vec![9]),
         (Request::ReadingEvaluate(reading(), 2), vec![0], vec![]),
         (Request::ReadingReport(reading()), vec![0, 0], vec![]),
     ];
@@ -286,11 +294,13 @@ fn scripts() {
 
 #[test]
 fn rm3_room() {
-    let ask = |room| answer(&Request::Rm3(table(&adder().records()), vec![9; room]));
-    let expected = translate(&adder()).bytes();
-    let full = Answer { refusal: None, numbers: vec![72], bytes: expected };
-    assert_eq!(ask(72), full);
-    let refused = Answer { refusal: Some(Refusal::plain(11)), numbers: vec![0], bytes: vec![9; 71] };
-    assert_eq!(ask(71), refused);
-    assert_eq!(ask(75).bytes[72..], [9; 3]);
+    let expected = alike(&adder()).bytes();
+    for mode in [Mode::Once, Mode::Anew] {
+        let ask = |room| answer(&Request::Rm3(mode, table(&adder().records()), vec![9; room]));
+        let full = Answer { refusal: None, numbers: vec![72], bytes: expected.clone() };
+        assert_eq!(ask(72), full);
+        let refused = Answer { refusal: Some(Refusal::plain(11)), numbers: vec![0], bytes: vec![9; 71] };
+        assert_eq!(ask(71), refused);
+        assert_eq!(ask(75).bytes[72..], [9; 3]);
+    }
 }

@@ -9,7 +9,7 @@ use crate::random::Random;
 use crate::request::Request;
 
 /// Two unlike blocks: of 0, 1 and 255 each beside each, or two that differ in one bit.
-fn two_blocks(random: &mut Random, turn: usize) -> [u8; 2] {
+pub fn two_blocks(random: &mut Random, turn: usize) -> [u8; 2] {
     let any = random.bits() as u8;
     let pairs = [[0, 1], [1, 0], [any, any ^ 1 << (turn / 7 % 8)], [0, 255], [255, 0], [1, 255], [255, 1]];
     pairs[turn % pairs.len()]

@@ -79,8 +79,8 @@ fn share(operation: u8) -> usize {
     match operation {
         4 => 8,
         5 | 28 => 4,
-        1 | 6 => 3,
-        2 => 2,
+        1 | 6 | 16 => 3,
+        2 | 7 | 8 => 2,
         _ => 1,
     }
 }

@@ -8,6 +8,7 @@ mod depths;
 mod edges;
 mod first_two;
 mod follows;
+mod helpers;
 pub mod networks;
 mod plant;
 mod readings;
@@ -22,6 +23,7 @@ pub use deck::{Case, Dealer};
 
 use crate::random::Random;
 use crate::request::{Request, Table};
+use crate::rm3::Mode;
 use crate::step::Step;
 use crate::table::{record_bytes, Network};
 use deck::{kind, Kind};
@@ -34,9 +36,10 @@ fn kinds(operation: u8) -> Vec<Kind> {
             [steps::kinds(), first_two::kinds(), voters::kinds(), blocks::step_kinds()].into_iter().flatten().collect()
         }
         5 => [scripts::kinds(), stored::kinds(), blocks::script_kinds()].into_iter().flatten().collect(),
-        6 => translations::kinds(),
+        6 => translations::kinds(Mode::Anew),
         7 => readings::evaluate_kinds(),
         8 => readings::report_kinds(),
+        16 => translations::kinds(Mode::Once),
         28 => follows::kinds(),
         _ => vec![],
     };
@@ -44,8 +47,9 @@ fn kinds(operation: u8) -> Vec<Kind> {
         3 => depths::kinds(report),
         4 => depths::kinds(steps::sweep),
         5 => depths::kinds(scripts::some_steps),
-        6 => depths::kinds(translations::with_some_room),
+        6 => depths::kinds(|random, network| translations::with_some_room(random, Mode::Anew, network)),
         8 => depths::kinds(readings::report),
+        16 => depths::kinds(|random, network| translations::with_some_room(random, Mode::Once, network)),
         _ => vec![],
     });
     for &(name, weight, make) in tables::KINDS {
@@ -81,9 +85,10 @@ fn around(operation: u8, random: &mut Random, table: Table) -> Request {
             let script = any_script(random);
             follows::any_places(random, table, script)
         }
-        6 => {
+        6 | 16 => {
+            let mode = if operation == 6 { Mode::Anew } else { Mode::Once };
             let length = random.pick(&[0, 8, 100, 400, 3000]);
-            Request::Rm3(table, random.bytes(length))
+            Request::Rm3(mode, table, random.bytes(length))
         }
         7 => {
             let assignment = any_assignment(random);
