@@ -15,6 +15,8 @@ struct pulpgarnet_ran plain_follow(uint8_t *table, size_t length, size_t used,
                                    const uint8_t *steps, size_t steps_length, uint16_t *places, size_t places_count);
 struct pulpgarnet_written plain_translate(const uint8_t *table, size_t length, size_t used,
                                           uint8_t *out, size_t out_length);
+struct pulpgarnet_written plain_translate_anew(const uint8_t *table, size_t length, size_t used,
+                                               uint8_t *out, size_t out_length);
 struct pulpgarnet_deep plain_rm3_depth(const uint8_t *table, size_t length, size_t used);
 
 #endif

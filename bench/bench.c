@@ -38,16 +38,18 @@ struct side {
     struct pulpgarnet_ran (*script)(uint8_t *, size_t, size_t, const uint8_t *, size_t);
     struct pulpgarnet_ran (*follow)(uint8_t *, size_t, size_t, const uint8_t *, size_t, uint16_t *, size_t);
     struct pulpgarnet_written (*translate)(const uint8_t *, size_t, size_t, uint8_t *, size_t);
+    struct pulpgarnet_written (*translate_anew)(const uint8_t *, size_t, size_t, uint8_t *, size_t);
     struct pulpgarnet_deep (*rm3_depth)(const uint8_t *, size_t, size_t);
 };
 
 static const struct side SIDES[2] = {
     { pulpgarnet_check, pulpgarnet_evaluate, pulpgarnet_report, pulpgarnet_step, pulpgarnet_script, pulpgarnet_follow,
-      pulpgarnet_translate, pulpgarnet_rm3_depth },
-    { plain_check, plain_evaluate, plain_report, plain_step, plain_script, plain_follow, plain_translate, plain_rm3_depth },
+      pulpgarnet_translate, pulpgarnet_translate_anew, pulpgarnet_rm3_depth },
+    { plain_check, plain_evaluate, plain_report, plain_step, plain_script, plain_follow, plain_translate,
+      plain_translate_anew, plain_rm3_depth },
 };
 
-enum call { NOTHING, CHECK, EVALUATE, REPORT, STEP, SCRIPT, FOLLOW, TRANSLATE, RM3_DEPTH };
+enum call { NOTHING, CHECK, EVALUATE, REPORT, STEP, SCRIPT, FOLLOW, TRANSLATE, TRANSLATE_ANEW, RM3_DEPTH };
 
 struct row { const char *name; enum call call; uint16_t rule; };
 
@@ -68,6 +70,7 @@ static const struct row ROWS[] = {
     { "script of 64 steps", SCRIPT, 0 },
     { "follow of 64 steps", FOLLOW, 0 },
     { "translate", TRANSLATE, 0 },
+    { "translate anew", TRANSLATE_ANEW, 0 },
     { "RM3 depth", RM3_DEPTH, 0 },
 };
 
@@ -130,6 +133,11 @@ __attribute__((noinline)) static void ask(const struct side *side, const struct 
     }
     case TRANSLATE: {
         struct pulpgarnet_written r = side->translate(table, in->length, in->used, out, sizeof out);
+        n[0] = r.refusal, n[1] = r.record, n[2] = r.edge, n[3] = r.length;
+        break;
+    }
+    case TRANSLATE_ANEW: {
+        struct pulpgarnet_written r = side->translate_anew(table, in->length, in->used, out, sizeof out);
         n[0] = r.refusal, n[1] = r.record, n[2] = r.edge, n[3] = r.length;
         break;
     }
