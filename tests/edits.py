@@ -17,7 +17,7 @@ PARTS = ("src", "specs", "proofs")
 # what the prover says where a proof or an edit names something that is not there, or leaves out what is
 SHAPE = re.compile(
     r"that can be named from here|is not in scope|has no field|missing field|expected type `tie\.Need-"
-    r"|explicit arguments? but the pattern|is given \d+ argument|cannot continue the declaration")
+    r"|explicit arguments? but the pattern|is given \d+ argument|cannot continue the declaration|this pattern needs a function")
 
 
 class BadEdit(Exception):
