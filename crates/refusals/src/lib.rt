@@ -16,6 +16,7 @@ pub enum Refusal {
     Gates,
     Room,
     Script,
+    Inputs,
 }
 
 pub fn refusal_number(refusal: Refusal) -> u32
@@ -34,6 +35,7 @@ pub fn refusal_number(refusal: Refusal) -> u32
         Refusal::Gates => 10,
         Refusal::Room => 11,
         Refusal::Script => 12,
+        Refusal::Inputs => 15,
     }
 }
 
@@ -54,6 +56,7 @@ pub fn refusal_record(refusal: Refusal) -> usize
         Refusal::Gates => 0,
         Refusal::Room => 0,
         Refusal::Script => 0,
+        Refusal::Inputs => 0,
     }
 }
 
@@ -74,5 +77,6 @@ pub fn refusal_edge(refusal: Refusal) -> u32
         Refusal::Gates => 0,
         Refusal::Room => 0,
         Refusal::Script => 0,
+        Refusal::Inputs => 0,
     }
 }
