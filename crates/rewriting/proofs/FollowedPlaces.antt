@@ -30,14 +30,15 @@ use Rattle.tables.proofs.Sound.{sound-accepted}
 use Rattle.rewriting.specs.Calls.{stepOf}
 use Rattle.rewriting.specs.Script.{countsAt}
 use Rattle.rewriting.specs.Through.{throughSteps}
-use Rattle.rewriting.specs.Follow.{inPlaces, firstPlaces, followedPlace, followedPlaces}
+use Rattle.rewriting.specs.Follow.{firstPlaces, followedPlace, followedPlaces}
+use Rattle.tables.specs.Places.{inPlaces}
 use Rattle.rewriting.specs.inner.Applied.{usedBy, stepIn}
 use Rattle.rewriting.specs.inner.ClosedUp.{Numbered}
 use Rattle.rewriting.specs.inner.Places.{Placed, Places, pastStep, editedEdge, numberLeft, leftBy}
 use Rattle.rewriting.proofs.CheckedStep.{unknown-step}
 use Rattle.rewriting.proofs.Replies.{table-same}
 use Rattle.rewriting.proofs.ThroughSteps.{through-off}
-use Rattle.rewriting.proofs.InPlaces.{places-none, places-length, place-changed, places-same}
+use Rattle.tables.proofs.InPlaces.{places-none, places-length, place-changed, places-same}
 use Rattle.rewriting.proofs.NumbersLeft.{left-edge}
 
 -- no gate is inserted, and none inverted

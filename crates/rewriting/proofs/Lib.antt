@@ -22,7 +22,6 @@ pub mod ScriptTurns  -- a script, one turn at a time
 mod Scripts  -- what a script is, from the check and its length
 pub mod SaidOnce  -- the replies are one-to-one
 -- following the gates
-mod InPlaces  -- places of which the first were changed
 pub mod ThroughSteps  -- what goes along with a script, one turn at a time
 mod NumbersLeft  -- the numbers of the nodes that sweep leaves, and edges by them
 mod FollowedPlaces  -- the places after a step, by its rule

@@ -17,7 +17,7 @@ use Rattle.rewriting.specs.Calls.{stepOf, stepBytes}
 use Rattle.rewriting.specs.Script.{byReply, stepsOf, whole, scriptRun}
 use Rattle.rewriting.specs.Through.{throughSteps, throughScript}
 use Rattle.rewriting.specs.Follow.{firstPlaces, followedPlace, followedPlaces, followRun, placesAfter}
-use Rattle.rewriting.proofs.InPlaces.{places-length, place-changed, place-left}
+use Rattle.tables.proofs.InPlaces.{places-length, place-changed, place-left}
 
 module _ (n m : ℕ) where
   -- the steps, one after another

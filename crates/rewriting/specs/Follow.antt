@@ -1,7 +1,7 @@
 -- Following the gates (SPEC 5.7): a script, and with it a place for each gate of the first table. It holds the edge that has the gate's first value now, or 0 where the gate was swept away.
-use Prim.Native.Nat.{ℕ, zero, suc}
+use Prim.Native.Nat.{ℕ, suc}
 use mathlib.Core.Bool.{Bool, false, not, _&&_, _||_}
-use mathlib.Core.List.{List, [], _∷_}
+use mathlib.Core.List.{List}
 use lib.Dec.{ltb}
 use lib.ListN.{length}
 use Rattle.refusals.specs.Why.{why}
@@ -13,14 +13,9 @@ use Rattle.rules.specs.Rules.{plain}
 use Rattle.rules.specs.Followed.{followedEdge}
 use Rattle.rules.specs.declared.Step.{Step}
 use Rattle.tables.specs.Calls.{checkOf}
+use Rattle.tables.specs.Places.{inPlaces}
 use Rattle.rewriting.specs.Script.{Run, stepsOf, whole, untaken, scriptRun}
 use Rattle.rewriting.specs.Through.{throughSteps}
-
--- the places ps, of which the first is that of node g: m of them with f of the node and of what the place held, and the others as they were
-unfoldable pub inPlaces : (ℕ → ℕ → ℕ) → ℕ → ℕ → List ℕ → List ℕ
-inPlaces f g zero ps = ps
-inPlaces f g (suc m) [] = []
-inPlaces f g (suc m) (e ∷ ps) = f g e ∷ inPlaces f (suc g) m ps
 
 -- the places of the m gates of a table of n inputs, before any step: of each gate the edge to it
 abbrev pub firstPlaces : ℕ → ℕ → List ℕ → List ℕ

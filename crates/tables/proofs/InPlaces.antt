@@ -6,7 +6,7 @@ use native.Mathlib.Omega.{arith}
 use native.Mathlib.Nat.{add-zero}
 use native.Mathlib.Numerals.{add-one}
 use lib.ListN.{length, getD, set}
-use Rattle.rewriting.specs.Follow.{inPlaces}
+use Rattle.tables.specs.Places.{inPlaces}
 
 module _ (f : ℕ → ℕ → ℕ) where
   pub places-none : (g : ℕ) (ps : List ℕ) → inPlaces f g 0 ps ≡ ps
@@ -57,6 +57,13 @@ unfolding inPlaces
 places-still f zero ps still g = refl
 places-still f (suc m) [] still g = refl
 places-still f (suc m) (e ∷ ps) still g = let rest = places-still f m ps still (suc g) in λ d. still e d ∷ rest d
+
+-- one change after another
+pub places-twice : (f h : ℕ → ℕ → ℕ) (g m : ℕ) (ps : List ℕ) → inPlaces f g m (inPlaces h g m ps) ≡ inPlaces (λ j e. f j (h j e)) g m ps
+unfolding inPlaces
+places-twice f h g zero ps = refl
+places-twice f h g (suc m) [] = refl
+places-twice f h g (suc m) (e ∷ ps) = ap (λ (qs : List ℕ). f g (h g e) ∷ qs) (places-twice f h (suc g) m ps)
 
 -- another change that comes to the same in each of them
 pub places-same : (f f′ : ℕ → ℕ → ℕ) (g g′ m : ℕ) (ps : List ℕ) → ((j : ℕ) → j < m → j < length ps → f (g + j) (getD ps j 0) ≡ f′ (g′ + j) (getD ps j 0)) → inPlaces f g m ps ≡ inPlaces f′ g′ m ps

@@ -8,3 +8,4 @@ pub mod AfterCheck  -- what a call that checks first knows and replies
 pub mod PutField  -- bytes after a field was put
 pub mod Put  -- records after a record was put
 pub mod Claims  -- claimed counts that are those found give the plain reply
+pub mod InPlaces  -- lent places of which the first were changed

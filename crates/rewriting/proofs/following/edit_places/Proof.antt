@@ -9,9 +9,9 @@ use Prim.Native.Nat.{ℕ, _-_, _≤_, _<_}
 use native.Mathlib.Omega.{arith}
 use mathlib.Core.List.{List}
 use lib.ListN.{length, getD}
-use Rattle.rewriting.specs.Follow.{inPlaces}
+use Rattle.tables.specs.Places.{inPlaces}
 use Rattle.rewriting.specs.inner.Places.{editedEdge}
-use Rattle.rewriting.proofs.InPlaces.{places-still, places-none, places-turn, places-length, place-left}
+use Rattle.tables.proofs.InPlaces.{places-still, places-none, places-turn, places-length, place-left}
 use Rattle.rewriting.proofs.FollowedPlaces.{edited-none}
 use Rattle.rewriting.proofs.following.edit_places.Statement.{statement}
 use Rattle.rewriting.proofs.following.edit_places.Tie as tie

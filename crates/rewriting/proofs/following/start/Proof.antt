@@ -6,7 +6,7 @@ use native.Mathlib.Omega.{arith}
 use lib.ListN.{length}
 use Rattle.rules.specs.Rules.{plain}
 use Rattle.rewriting.specs.Follow.{firstPlaces}
-use Rattle.rewriting.proofs.InPlaces.{places-none, places-turn, places-length}
+use Rattle.tables.proofs.InPlaces.{places-none, places-turn, places-length}
 use Rattle.rewriting.proofs.following.start.Statement.{statement}
 use Rattle.rewriting.proofs.following.start.Tie as tie
 

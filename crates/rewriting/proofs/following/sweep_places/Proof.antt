@@ -5,9 +5,9 @@ use Prim.Native.Nat.{ℕ, _-_, _≤_, _<_}
 use native.Mathlib.Omega.{arith}
 use mathlib.Core.List.{List}
 use lib.ListN.{length, getD}
-use Rattle.rewriting.specs.Follow.{inPlaces}
+use Rattle.tables.specs.Places.{inPlaces}
 use Rattle.rewriting.specs.inner.Places.{leftBy}
-use Rattle.rewriting.proofs.InPlaces.{places-none, places-turn, places-length, place-left}
+use Rattle.tables.proofs.InPlaces.{places-none, places-turn, places-length, place-left}
 use Rattle.rewriting.proofs.following.sweep_places.Statement.{statement}
 use Rattle.rewriting.proofs.following.sweep_places.Tie as tie
 

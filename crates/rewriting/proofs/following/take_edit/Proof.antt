@@ -6,7 +6,7 @@ use native.Mathlib.Omega.{arith}
 use Rattle.rules.specs.Step.{inserted}
 use Rattle.tables.proofs.Sound.{sound-accepted}
 use Rattle.rewriting.specs.Calls.{saidStep}
-use Rattle.rewriting.specs.Follow.{inPlaces}
+use Rattle.tables.specs.Places.{inPlaces}
 use Rattle.rewriting.specs.inner.Places.{editedEdge}
 use Rattle.rewriting.proofs.FollowedPlaces.{places-within, past-taken, past-refused, few-inserted, edited-places}
 use borrow.Author.Needs.{needs}
