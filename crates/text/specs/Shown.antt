@@ -37,6 +37,10 @@ places n = firstFrom (λ k. ltb n (10 ^ k)) 1 20
 unfoldable pub decimal : ℕ → List ℕ
 decimal n = digits 10 (places n) n
 
+-- a number below 2^64 in 16 hexadecimal digits, `a` to `f` for those from ten up, with zeros in front
+unfoldable pub hexadecimal : ℕ → List ℕ
+hexadecimal n = digits 16 16 n
+
 -- `refused `, ` at ` and a blank in ASCII
 abbrev pub refusedWord : List ℕ
 refusedWord = 114 ∷ 101 ∷ 102 ∷ 117 ∷ 115 ∷ 101 ∷ 100 ∷ 32 ∷ []

@@ -4,7 +4,7 @@ mod spelling;
 ghost use mathlib.Core.Path.{_≡_};
 ghost use Prim.Native.Nat.{_%_, min};
 ghost use Rattle.refusals.specs.Why.{whyOf};
-ghost use Rattle.text.specs.Shown.{lineOf, appended, emptyLine, withWord, decimal, withNumber, withRefusal, fourBytes};
+ghost use Rattle.text.specs.Shown.{lineOf, appended, emptyLine, withWord, decimal, hexadecimal, withNumber, withRefusal, fourBytes};
 use refusals::Refusal;
 use refusals::refusal_edge;
 use refusals::refusal_number;
@@ -50,6 +50,15 @@ impl Line {
     {
         let mut digits = [0u8; 20];
         let places = io::decimal(n, &mut digits);
+        self.word(&digits[..places])
+    }
+
+    // The line with a number after its text, in 16 hexadecimal digits, cut where the line is full.
+    pub fn hexadecimal(self, n: u64) -> Line
+        ensures { λ r. ⌜ r ≡ withWord self (hexadecimal n) ⌝ }
+    {
+        let mut digits = [0u8; 16];
+        let places = io::hex(n, 16, &mut digits);
         self.word(&digits[..places])
     }
 
