@@ -12,8 +12,8 @@
  * A record of a table is 8 bytes (docs/SPEC.md, 2.1 and 6.1): its kind, its block, which is 0 in all but gates and operations, and three
  * 16-bit numbers, low byte first. Steps keep the gates' blocks. An operation has that of its gate, and 0 where it was made for an output.
  *
- * A reply begins with `refusal`, 0 for none, else 1 to 12 as README.md lists them, `record`, the record that refusals 2, 4 and 5
- * carry, counted from 0, else 0, and `edge`, which of that record's edges refusal 5 means, the first bad one: 1, 2 or 3, else 0.
+ * A reply begins with `refusal`, 0 for none, else 1 to 12 or 15 as README.md lists them, `record`, the record that refusals 2, 4 and
+ * 5 carry, counted from 0, else 0, and `edge`, which of that record's edges refusal 5 means, the first bad one: 1, 2 or 3, else 0.
  * Where a call is refused it has written nothing and all other numbers are 0; pulpgarnet_script and pulpgarnet_follow say what they
  * do instead. Bytes that a call is not said to write stay as they were.
  */
@@ -30,6 +30,7 @@ extern "C" {
 struct pulpgarnet_checked  { uint32_t refusal; size_t record; uint32_t edge; size_t inputs, gates, outputs; };
 struct pulpgarnet_valued   { uint32_t refusal; size_t record; uint32_t edge; uint32_t outputs; };
 struct pulpgarnet_reported { uint32_t refusal; size_t record; uint32_t edge; size_t size, depth; };
+struct pulpgarnet_placed   { uint32_t refusal; size_t record; uint32_t edge; size_t places; };
 struct pulpgarnet_stepped  { uint32_t refusal; size_t record; uint32_t edge; size_t used; };
 struct pulpgarnet_ran      { uint32_t refusal; size_t record; uint32_t edge; size_t taken, used; };
 struct pulpgarnet_written  { uint32_t refusal; size_t record; uint32_t edge; size_t length; };
@@ -45,6 +46,18 @@ struct pulpgarnet_valued pulpgarnet_evaluate(const uint8_t *table, size_t length
 /* The number of gates, and the depth, which is the highest level among the nodes that outputs name: a gate that no output reaches
    counts for the first alone. Writes nothing. Refusals 1 to 5. */
 struct pulpgarnet_reported pulpgarnet_report(const uint8_t *table, size_t length, size_t used);
+
+/* Sixty-four assignments at once, of a table of at most 16 inputs. With n inputs, `first` is a multiple of 64 below 2^n, so 0 alone
+   where n is at most 6. Place j-1 becomes the word of output j: bit k is its value under the assignment `first` + k, and 0 where that is
+   2^n or more. Writes so many places as there are outputs, which `places` says; those after them stay. 32 are enough for any table.
+   Refusals 1 to 5, then 15 for more inputs, then 6 for another `first`, then 11 where there are fewer places than outputs. */
+struct pulpgarnet_placed pulpgarnet_words(const uint8_t *table, size_t length, size_t used, uint32_t first,
+                                          uint64_t *places, size_t places_count);
+
+/* The same over all assignments: place j-1 becomes the number of those that make output j true, at most 65,536.
+   Refusals 1 to 5, then 15, then 11. */
+struct pulpgarnet_placed pulpgarnet_totals(const uint8_t *table, size_t length, size_t used,
+                                           uint64_t *places, size_t places_count);
 
 /* Applies one step, and returns the new used length. Writes the table, no byte past the larger of its old and its new used
    length: where the table became shorter, the bytes between the two become 0. Refusals 1 to 5, 7 to 11. */

@@ -7,6 +7,7 @@ use Rattle.rewriting.specs.Script.{End, finished, stopped, Run}
 use Rattle.pulpgarnet.specs.declared.Checked.{Checked}
 use Rattle.pulpgarnet.specs.declared.Valued.{Valued}
 use Rattle.pulpgarnet.specs.declared.Reported.{Reported}
+use Rattle.pulpgarnet.specs.declared.Placed.{Placed}
 use Rattle.pulpgarnet.specs.declared.Stepped.{Stepped}
 use Rattle.pulpgarnet.specs.declared.Ran.{Ran}
 use Rattle.pulpgarnet.specs.declared.Written.{Written}
@@ -60,6 +61,9 @@ reportedReply r =
       size = orZero r (λ s. s .gates);
       depth = orZero r (λ s. s .depth);
     }
+
+abbrev pub placedReply : Reply ℕ → Placed
+placedReply r = record { refusal = number (endOf r); at = place (endOf r); edge = edge (endOf r); places = orZero r (λ n. n) }
 
 abbrev pub steppedReply : Reply ℕ → Stepped
 steppedReply r = record { refusal = number (endOf r); at = place (endOf r); edge = edge (endOf r); used = orZero r (λ used. used) }

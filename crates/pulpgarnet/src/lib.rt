@@ -21,7 +21,9 @@ ghost use Rattle.rewriting.specs.Follow.{followRun, placesAfter};
 ghost use Rattle.translation.specs.declared.Mode.the-variants.{Anew, Once};
 ghost use Rattle.rm3.specs.Said.{saidTranslate};
 ghost use Rattle.rm3.specs.Calls.{translateOf, translateBytes, depthOf};
-ghost use Rattle.pulpgarnet.specs.Replies.{checkedReply, valuedReply, reportedReply, steppedReply, ranReply, writtenReply, deepReply};
+ghost use Rattle.words.specs.Said.{saidPlaced};
+ghost use Rattle.words.specs.Calls.{wordsOf, wordsPlaces, totalsOf, totalsPlaces};
+ghost use Rattle.pulpgarnet.specs.Replies.{checkedReply, valuedReply, reportedReply, placedReply, steppedReply, ranReply, writtenReply, deepReply};
 
 // Each struct begins with the refusal's number, 0 for none, the record that it carries, which the header calls `record`, and which edge of it.
 #[repr(C)]
@@ -49,6 +51,14 @@ pub struct Reported {
     pub edge: u32,
     pub size: usize,
     pub depth: usize,
+}
+
+#[repr(C)]
+pub struct Placed {
+    pub refusal: u32,
+    pub at: usize,
+    pub edge: u32,
+    pub places: usize,
 }
 
 #[repr(C)]
@@ -163,6 +173,48 @@ pub extern "C" fn pulpgarnet_report(table: &[u8], used: usize) -> Reported
     ensures { λ r. ⌜ r ≡ reportedReply (reportOf (now (table .entry)) used) ⌝ }
 {
     report_reply(questions::report(table, used))
+}
+
+fn placed_reply(answer: words::Placed) -> Placed
+    ensures { λ r. ⌜ r ≡ placedReply (saidPlaced answer) ⌝ }
+{
+    match answer {
+        words::Placed::Places(places) => Placed {
+            refusal: 0,
+            at: 0,
+            edge: 0,
+            places,
+        },
+        words::Placed::Refused(refusal) => Placed {
+            refusal: refusal_number(refusal),
+            at: refusal_record(refusal),
+            edge: refusal_edge(refusal),
+            places: 0,
+        },
+    }
+}
+
+// The outputs' words from the assignment `first` on, to the first places: how many were written.
+#[no_mangle]
+pub extern "C" fn pulpgarnet_words(
+    table: &[u8],
+    used: usize,
+    first: u32,
+    places: &mut [u64],
+) -> Placed
+    ensures reply { λ r. ⌜ r ≡ placedReply (wordsOf (now (table .entry)) used first (length (now (places .entry)))) ⌝ }
+    ensures places { λ _. ⌜ now (places .exit) ≡ wordsPlaces (now (table .entry)) used first (now (places .entry)) ⌝ }
+{
+    placed_reply(words::words(table, used, first, places))
+}
+
+// The outputs' totals over all assignments, to the first places: how many were written.
+#[no_mangle]
+pub extern "C" fn pulpgarnet_totals(table: &[u8], used: usize, places: &mut [u64]) -> Placed
+    ensures reply { λ r. ⌜ r ≡ placedReply (totalsOf (now (table .entry)) used (length (now (places .entry)))) ⌝ }
+    ensures places { λ _. ⌜ now (places .exit) ≡ totalsPlaces (now (table .entry)) used (now (places .entry)) ⌝ }
+{
+    placed_reply(words::totals(table, used, places))
 }
 
 // One step: the new used length.
