@@ -1,14 +1,9 @@
 // What a request is read by. Nothing here reads a byte past the one that is asked for.
-ghost use Prim.Native.Nat.{_≤_};
-ghost use lib.ListN.{length};
 ghost use Rattle.majpipe.specs.inner.Part.{Within};
 use libc::STDIN_FILENO;
 use majority::Counts;
 use program::Got;
 use program::read_whole;
-
-// The most places that a request may have.
-pub const MOST_PLACES: usize = 8192;
 
 // Why a request cannot be answered: the input ends inside it, a part is longer or places are more than is allowed, or a read failed with this
 // error.
@@ -107,7 +102,7 @@ fn read_outputs(inputs: u32, gates: u32) -> Claim {
 }
 
 // So many bytes, to the start of the buffer.
-fn read_bytes(buffer: &mut [u8], length: u32) -> Part
+pub fn read_bytes(buffer: &mut [u8], length: u32) -> Part
     ensures { λ r. ⌜ Within r (now (buffer .exit)) ⌝ }
 {
     let n = length as usize;
@@ -131,53 +126,6 @@ pub fn read_part(buffer: &mut [u8]) -> Part
 {
     match read_number() {
         Word::Number(length) => read_bytes(buffer, length),
-        Word::Not(fault) => Part::Not(fault),
-    }
-}
-
-// A number of two bytes, the low one first.
-fn two_bytes(low: u8, high: u8) -> u16 {
-    low as u16 + 256 * (high as u16)
-}
-
-// Sets the first places to the numbers of two bytes each that the bytes begin with.
-fn set_places(places: &mut [u16], count: usize, bytes: &[u8; 2 * MOST_PLACES])
-    requires { ⌜ (count ≤ 8192) × (count ≤ length (now places)) ⌝ }
-{
-    let mut i = 0;
-    while i < count {
-        places[i] = two_bytes(bytes[2 * i], bytes[2 * i + 1]);
-        i += 1;
-    }
-}
-
-// So many places.
-fn read_numbers(places: &mut [u16], count: u32) -> Part
-    ensures { λ r. ⌜ Within r (now (places .exit)) ⌝ }
-{
-    let n = count as usize;
-    if MOST_PLACES < n {
-        return Part::Not(Fault::TooMany(count));
-    }
-    if places.len() < n {
-        return Part::Not(Fault::TooMany(count));
-    }
-    let mut bytes = [0u8; 2 * MOST_PLACES];
-    match read_bytes(&mut bytes, 2 * count) {
-        Part::Bytes(_) => {
-            set_places(places, n, &bytes);
-            Part::Bytes(n)
-        }
-        Part::Not(fault) => Part::Not(fault),
-    }
-}
-
-// A count, and then so many numbers of two bytes, which go to the first places.
-pub fn read_places(places: &mut [u16]) -> Part
-    ensures { λ r. ⌜ Within r (now (places .exit)) ⌝ }
-{
-    match read_number() {
-        Word::Number(count) => read_numbers(places, count),
         Word::Not(fault) => Part::Not(fault),
     }
 }

@@ -1,15 +1,19 @@
 // Answers requests on standard input with replies on standard output, until the input ends: the library for every other language.
 mod input;
+mod places;
 mod reply;
 
+ghost use Prim.Native.Nat.{_≤_};
+ghost use lib.ListN.{length};
 use input::Claim;
 use input::Fault;
-use input::MOST_PLACES;
 use input::Part;
 use input::Start;
 use input::Word;
 use libc::STDOUT_FILENO;
 use majority::Counts;
+use places::MOST_BYTES;
+use places::MOST_PLACES;
 use program::Called;
 use program::End;
 use program::Program;
@@ -17,12 +21,14 @@ use questions::Reported;
 use questions::Valued;
 use reply::Reply;
 use rewriting::Ending;
+use rewriting::Progress;
 use rewriting::Stepped;
 use rm3::Translated;
 use rules::Step;
 use tables::Checked;
 use text::Line;
 use translation::Mode;
+use words::Placed;
 
 // The most bytes that a part may have.
 const PART: usize = 65536;
@@ -47,6 +53,17 @@ fn sent(reply: Reply) -> Outcome {
 // The same, where every byte of a buffer follows the reply.
 fn sent_with(reply: Reply, bytes: &[u8]) -> Outcome {
     if reply.write() && program::write_whole(STDOUT_FILENO, bytes) {
+        return Outcome::Answered;
+    }
+    Outcome::Unwritten
+}
+
+// The same, where so many bytes of places follow, with no byte before them where no buffer was changed.
+fn sent_with_places(reply: Reply, table: &[u8], bytes: &[u8], length: usize) -> Outcome {
+    if reply.write()
+        && program::write_whole(STDOUT_FILENO, table)
+        && places::write_first(bytes, length)
+    {
         return Outcome::Answered;
     }
     Outcome::Unwritten
@@ -133,19 +150,19 @@ fn step(table: &mut [u8], used: usize) -> Outcome {
     }
 }
 
-// How a script ended.
-fn ended(ending: Ending) -> Reply {
+// How a script ended, the steps taken and the used length.
+fn ran(done: Progress) -> Reply {
+    let ending = done.ending;
     match ending {
-        Ending::Finished => Reply::accepted(),
-        Ending::Stopped(r) => Reply::refused(r),
+        Ending::Finished => Reply::accepted().number(done.taken).number(done.used),
+        Ending::Stopped(r) => Reply::refused(r).number(done.taken).number(done.used),
     }
 }
 
-// The steps taken and the used length, and then the table as the script left it.
+// The reply of a script, and then the table as it left it.
 fn run(table: &mut [u8], used: usize, steps: &[u8]) -> Outcome {
     let done = rewriting::script(table, used, steps);
-    let ending = done.ending;
-    sent_with(ended(ending).number(done.taken).number(done.used), table)
+    sent_with(ran(done), table)
 }
 
 // Operation 5: a script, which is read here.
@@ -193,22 +210,29 @@ fn report_reading(records: &[u8], c: Counts) -> Outcome {
     reported(reading::reported_as(records, c.inputs, c.gates, c.outputs))
 }
 
-// The steps taken and the used length, the table as the script left it, and then each place that was lent.
-fn run_followed(table: &mut [u8], used: usize, steps: &[u8], places: &mut [u16]) -> Outcome {
+// The reply of a script, the table as it left it, and then each place that was lent, which the bytes give and take.
+fn run_followed(
+    table: &mut [u8],
+    used: usize,
+    steps: &[u8],
+    bytes: &mut [u8; MOST_BYTES],
+    places: &mut [u16],
+) -> Outcome
+    requires { ⌜ length (now places) ≤ 8192 ⌝ }
+{
+    let length = 2 * places.len();
+    places::take_short(places, bytes);
     let done = rewriting::follow(table, used, steps, places);
-    let ending = done.ending;
-    let reply = ended(ending).number(done.taken).number(done.used);
-    if reply.write() && program::write_whole(STDOUT_FILENO, table) && reply::write_places(places) {
-        return Outcome::Answered;
-    }
-    Outcome::Unwritten
+    places::give_short(bytes, places);
+    sent_with_places(ran(done), table, bytes, length)
 }
 
 // The same, where the places are still to be read.
 fn follow_by(table: &mut [u8], used: usize, steps: &[u8]) -> Outcome {
+    let mut bytes = io::large_buffer();
     let mut places = [0u16; MOST_PLACES];
-    match input::read_places(&mut places) {
-        Part::Bytes(count) => run_followed(table, used, steps, &mut places[..count]),
+    match places::read_places(&mut bytes, 2) {
+        Part::Bytes(count) => run_followed(table, used, steps, &mut bytes, &mut places[..count]),
         Part::Not(fault) => Outcome::Not(fault),
     }
 }
@@ -219,6 +243,62 @@ fn follow(table: &mut [u8], used: usize) -> Outcome {
     match input::read_part(&mut buffer) {
         Part::Bytes(n) => follow_by(table, used, &buffer[..n]),
         Part::Not(fault) => Outcome::Not(fault),
+    }
+}
+
+// How many places were written.
+fn placed(answer: Placed) -> Reply {
+    match answer {
+        Placed::Places(n) => Reply::accepted().number(n),
+        Placed::Refused(r) => Reply::refused(r).number(0),
+    }
+}
+
+// What goes to the places: the outputs' words from this assignment on, or their totals.
+enum Asked {
+    Words(u32),
+    Totals,
+}
+
+fn answered(table: &[u8], used: usize, asked: Asked, places: &mut [u64]) -> Reply {
+    match asked {
+        Asked::Words(first) => placed(words::words(table, used, first, places)),
+        Asked::Totals => placed(words::totals(table, used, places)),
+    }
+}
+
+// How many places were written, and then each that was lent, which the bytes give and take.
+fn place(
+    table: &[u8],
+    used: usize,
+    asked: Asked,
+    bytes: &mut [u8; MOST_BYTES],
+    places: &mut [u64],
+) -> Outcome
+    requires { ⌜ length (now places) ≤ 8192 ⌝ }
+{
+    let length = 8 * places.len();
+    places::take_long(places, bytes);
+    let reply = answered(table, used, asked, places);
+    places::give_long(bytes, places);
+    sent_with_places(reply, b"", bytes, length)
+}
+
+// Operation 23, and the end of 22: the places are read here.
+fn place_in(table: &[u8], used: usize, asked: Asked) -> Outcome {
+    let mut bytes = io::large_buffer();
+    let mut places = [0u64; MOST_PLACES];
+    match places::read_places(&mut bytes, 8) {
+        Part::Bytes(count) => place(table, used, asked, &mut bytes, &mut places[..count]),
+        Part::Not(fault) => Outcome::Not(fault),
+    }
+}
+
+// Operation 22: the words from an assignment on, which is read here.
+fn words_from(table: &[u8], used: usize) -> Outcome {
+    match input::read_number() {
+        Word::Number(first) => place_in(table, used, Asked::Words(first)),
+        Word::Not(fault) => Outcome::Not(fault),
     }
 }
 
@@ -237,6 +317,8 @@ fn on_table(operation: u8, table: &mut [u8], used: usize) -> Outcome {
         4 => step(table, used),
         5 => script(table, used),
         16 => translate(Mode::Once, table, used),
+        22 => words_from(table, used),
+        23 => place_in(table, used, Asked::Totals),
         28 => follow(table, used),
         _ => translate(Mode::Anew, table, used),
     }
@@ -284,7 +366,7 @@ fn with_counts(operation: u8, buffer: &mut [u8]) -> Outcome {
 // Answers a request that begins with this operation.
 fn on_operation(operation: u8, buffer: &mut [u8]) -> Outcome {
     match operation {
-        1..=6 | 16 | 28 => with_used(operation, buffer),
+        1..=6 | 16 | 22..=23 | 28 => with_used(operation, buffer),
         7..=8 => with_counts(operation, buffer),
         _ => Outcome::Unknown(operation),
     }

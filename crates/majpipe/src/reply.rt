@@ -1,7 +1,6 @@
 // A reply: its numbers are gathered and written at once.
 ghost use mathlib.Core.Path.{_≡_};
 ghost use Rattle.text.specs.Shown.{withWord, fourBytes};
-use crate::input::MOST_PLACES;
 use libc::STDOUT_FILENO;
 use refusals::Refusal;
 use text::Line;
@@ -49,29 +48,4 @@ impl Reply {
         let line = self.line;
         program::write_line(STDOUT_FILENO, line)
     }
-}
-
-// The two bytes of a number.
-fn low(n: u16) -> u8 {
-    (n % 256) as u8
-}
-
-fn high(n: u16) -> u8 {
-    (n / 256) as u8
-}
-
-// Writes places, two bytes each, the low one first, and answers whether all were written.
-pub fn write_places(places: &[u16]) -> bool {
-    // never so: no more are read
-    if MOST_PLACES < places.len() {
-        return false;
-    }
-    let mut bytes = [0u8; 2 * MOST_PLACES];
-    let mut i = 0;
-    while i < places.len() {
-        bytes[2 * i] = low(places[i]);
-        bytes[2 * i + 1] = high(places[i]);
-        i += 1;
-    }
-    program::write_whole(STDOUT_FILENO, &bytes[..2 * i])
 }
