@@ -22,11 +22,15 @@ static void get(void *bytes, size_t length)
         end("the input ended inside a request");
 }
 
-static size_t get_number(size_t width)
+/* A number of so many bytes, the low one first. */
+static uint64_t get_number(size_t width)
 {
-    uint8_t b[4] = {0};
+    uint8_t b[8];
+    uint64_t n = 0;
     get(b, width);
-    return b[0] | (size_t)b[1] << 8 | (size_t)b[2] << 16 | (size_t)b[3] << 24;
+    for (size_t i = width; i > 0; i--)
+        n = n << 8 | b[i - 1];
+    return n;
 }
 
 static void get_part(struct part *part)
@@ -37,11 +41,23 @@ static void get_part(struct part *part)
     get(part->bytes, part->length);
 }
 
-static void put_number(size_t n)
+static size_t get_count(void)
 {
-    uint8_t b[4] = {n, n >> 8, n >> 16, n >> 24};
-    fwrite(b, 1, sizeof b, stdout);
+    size_t count = get_number(4);
+    if (count > MOST_PLACES)
+        end("there are too many places");
+    return count;
 }
+
+static void put(uint64_t n, size_t width)
+{
+    uint8_t b[8];
+    for (size_t i = 0; i < width; i++, n >>= 8)
+        b[i] = (uint8_t)n;
+    fwrite(b, 1, width, stdout);
+}
+
+static void put_number(size_t n) { put(n, 4); }
 
 static void put_part(const struct part *part)
 {
@@ -117,9 +133,7 @@ static void follow(size_t used)
 {
     static uint16_t places[MOST_PLACES];
     get_part(&script);
-    size_t count = get_number(4);
-    if (count > MOST_PLACES)
-        end("there are too many places");
+    size_t count = get_count();
     for (size_t i = 0; i < count; i++)
         places[i] = get_number(2);
     struct pulpgarnet_ran r = pulpgarnet_follow(table.bytes, table.length, used, script.bytes, script.length, places, count);
@@ -127,10 +141,39 @@ static void follow(size_t used)
     put_number(r.taken);
     put_number(r.used);
     put_part(&table);
-    for (size_t i = 0; i < count; i++) {
-        uint8_t b[2] = {places[i], places[i] >> 8};
-        fwrite(b, 1, sizeof b, stdout);
-    }
+    for (size_t i = 0; i < count; i++)
+        put(places[i], 2);
+}
+
+static uint64_t long_places[MOST_PLACES];
+
+static size_t get_long_places(void)
+{
+    size_t count = get_count();
+    for (size_t i = 0; i < count; i++)
+        long_places[i] = get_number(8);
+    return count;
+}
+
+static void put_placed(struct pulpgarnet_placed r, size_t count)
+{
+    put_refusal(r.refusal, r.record, r.edge);
+    put_number(r.places);
+    for (size_t i = 0; i < count; i++)
+        put(long_places[i], 8);
+}
+
+static void words(size_t used)
+{
+    uint32_t first = get_number(4);
+    size_t count = get_long_places();
+    put_placed(pulpgarnet_words(table.bytes, table.length, used, first, long_places, count), count);
+}
+
+static void totals(size_t used)
+{
+    size_t count = get_long_places();
+    put_placed(pulpgarnet_totals(table.bytes, table.length, used, long_places, count), count);
 }
 
 static unsigned higher(unsigned a, unsigned b) { return a < b ? b : a; }
@@ -197,7 +240,8 @@ static void on_reading(int evaluated)
 int main(void)
 {
     static void (*const calls[])(size_t) = {
-        [1] = check, [2] = evaluate, [3] = report, [4] = step, [5] = run, [6] = translate_anew, [16] = translate, [28] = follow,
+        [1] = check, [2] = evaluate, [3] = report, [4] = step, [5] = run, [6] = translate_anew, [16] = translate,
+        [22] = words, [23] = totals, [28] = follow,
     };
     uint8_t operation;
     while (fread(&operation, 1, 1, stdin) == 1) {

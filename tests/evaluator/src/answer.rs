@@ -23,6 +23,7 @@ pub fn number_names(operation: u8) -> &'static [&'static str] {
         3 | 8 => &["size", "depth"],
         4 => &["new used length"],
         5 | 28 => &["steps taken", "used length"],
+        22 | 23 => &["places written"],
         _ => &["length"],
     }
 }
@@ -89,6 +90,11 @@ pub fn answer(request: &Request) -> Answer {
             Answer::of(value.map(|value| [value]), vec![])
         }
         Request::ReadingReport(reading) => Answer::of(reading.network().map(report), vec![]),
+        Request::AtOnce(at_once) => {
+            let network = at_once.network();
+            let places = network.as_ref().map_or(at_once.places.clone(), |network| at_once.written(network));
+            Answer::of(network.map(|network| [network.outputs.len() as u32]), place_bytes(&places))
+        }
         Request::Follow(follow) => {
             let mut bytes = follow.table.buffer.clone();
             let (progress, probes) = follow.run(&mut bytes);

@@ -1,7 +1,8 @@
 //! What a run met: requests, accepted ones, rules, refusals with their edges, first two edges, stored scripts, RM3 patterns and helpers,
-//! followed gates.
+//! followed gates, words and totals.
 
 use crate::answer::Answer;
+use crate::at_once_counts::AtOnceCounts;
 use crate::block_counts::BlockCounts;
 use crate::depth_counts::DepthCounts;
 use crate::follow_counts::FollowCounts;
@@ -14,6 +15,9 @@ use crate::table::{records, Refusal};
 
 const RULES: usize = LAST_RULE as usize;
 
+/// One more than the highest refusal's number.
+const PAST_REFUSALS: usize = 16;
+
 /// The rules that look at the first two edges of a gate.
 const BY_FIRST_TWO: [u16; 2] = [2, 10];
 
@@ -21,17 +25,18 @@ const BY_FIRST_TWO: [u16; 2] = [2, 10];
 pub struct Counts {
     asked: [usize; PAST_OPERATIONS],
     accepted: [usize; PAST_OPERATIONS],
-    refusals: [[usize; 13]; PAST_OPERATIONS],
+    refusals: [[usize; PAST_REFUSALS]; PAST_OPERATIONS],
     /// Refusals 5, by operation and by the edge that they carry.
     edges: [[usize; 4]; PAST_OPERATIONS],
     /// Accepted steps, by operation and rule.
     rules: [[usize; RULES + 1]; PAST_OPERATIONS],
     /// Steps that were refused, single ones and those that stopped a script, by rule and refusal.
-    refused_steps: [[usize; 13]; RULES + 1],
+    refused_steps: [[usize; PAST_REFUSALS]; RULES + 1],
     /// Single steps of rule 2 and of rule 10 that came to look at their gate, by its first two edges.
     first_two: [[usize; 3]; 2],
     stored: StoredCounts,
     follow: FollowCounts,
+    at_once: AtOnceCounts,
     /// Gates of translated tables, by operation and the classes of their edges.
     patterns: [[usize; 27]; PAST_OPERATIONS],
     helpers: HelperCounts,
@@ -47,6 +52,8 @@ pub fn possible(operation: u8) -> &'static [usize] {
         4 => &[1, 2, 3, 4, 5, 7, 8, 9, 10, 11],
         5 | 28 => &[1, 2, 3, 4, 5, 7, 8, 9, 10, 11, 12],
         6 | 16 => &[1, 2, 3, 4, 5, 11],
+        22 => &[1, 2, 3, 4, 5, 6, 11, 15],
+        23 => &[1, 2, 3, 4, 5, 11, 15],
         _ => &[1, 2, 3, 4, 5],
     }
 }
@@ -118,6 +125,7 @@ impl Counts {
                 }
                 self.follow.note(follow, answer);
             }
+            Request::AtOnce(at_once) => self.at_once.note(at_once, answer),
             Request::Rm3(_, table, _) if answer.refusal.is_none() => {
                 for gate in table.network().iter().flat_map(|network| &network.gates) {
                     let [first, second, third] = gate.edges.map(|edge| class(edge) as usize);
@@ -166,6 +174,9 @@ impl Counts {
             if operation == 28 {
                 lines.extend(self.follow.never_met());
             }
+            if operation == 22 || operation == 23 {
+                lines.extend(self.at_once.never_met(operation));
+            }
             if operation == 6 || operation == 16 {
                 if self.patterns[place].contains(&0) {
                     lines.push(format!("never met: one of the 27 RM3 patterns, by operation {operation}"));
@@ -200,7 +211,9 @@ impl Counts {
                 format!("first two edges by a single step of rule {rule}: {equal} equal, {opposite} opposite, {neither} neither")
             }));
         }
-        for number in (1..=12).filter(|number| asked.iter().any(|&operation| possible(operation).contains(number))) {
+        for number in
+            (1..PAST_REFUSALS).filter(|number| asked.iter().any(|&operation| possible(operation).contains(number)))
+        {
             let met: usize = self.refusals.iter().map(|refusals| refusals[number]).sum();
             lines.push(format!("refusal {number}: {met} times"));
         }
@@ -214,6 +227,9 @@ impl Counts {
         }
         if asked.contains(&28) {
             lines.extend(self.follow.report());
+        }
+        for &operation in asked.iter().filter(|&&operation| operation == 22 || operation == 23) {
+            lines.extend(self.at_once.report(operation));
         }
         for &operation in asked.iter().filter(|&&operation| operation == 6 || operation == 16) {
             let met = self.patterns[usize::from(operation)].iter().filter(|&&count| count > 0).count();

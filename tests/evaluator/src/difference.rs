@@ -33,9 +33,10 @@ pub fn differences(request: &Request, answer: &Answer, reply: &[u8]) -> Vec<Stri
     let expected = answer.bytes();
     let names = ["refusal", "record", "edge"].iter().chain(number_names(request.operation()));
     let head = 4 * names.clone().count();
-    let end = match request {
-        Request::Follow(follow) => head + follow.table.buffer.len(),
-        _ => expected.len(),
+    let (end, width) = match request {
+        Request::Follow(follow) => (head + follow.table.buffer.len(), 2),
+        Request::AtOnce(_) => (head, 8),
+        _ => (expected.len(), 1),
     };
     let number = |bytes: &[u8], at: usize| u32::from_le_bytes([bytes[at], bytes[at + 1], bytes[at + 2], bytes[at + 3]]);
     let mut lines = Vec::new();
@@ -53,14 +54,19 @@ pub fn differences(request: &Request, answer: &Answer, reply: &[u8]) -> Vec<Stri
         lines.push(format!("  from byte {} expected {}", from - head, hex(&expected[from..end])));
         lines.push(format!("  from byte {} got      {}", from - head, hex(&reply[from..end])));
     }
-    let places = |bytes: &[u8]| -> Vec<u16> {
-        bytes[end..].chunks_exact(2).map(|two| u16::from_le_bytes([two[0], two[1]])).collect()
+    let places = |bytes: &[u8]| -> Vec<u64> {
+        let place = |bytes: &[u8]| bytes.iter().rev().fold(0, |high, &byte| high << 8 | u64::from(byte));
+        bytes[end..].chunks_exact(width).map(place).collect()
     };
     let pairs: Vec<_> = places(&expected).into_iter().zip(places(reply)).enumerate().collect();
     let differing: Vec<_> = pairs.iter().filter(|(_, (wanted, got))| wanted != got).collect();
     if let Some((at, (wanted, got))) = differing.first() {
         let whole = differing.len();
-        lines.push(format!("{whole} of {} places differ, first place {at}: expected {wanted}, got {got}", pairs.len()));
+        let told = match request.operation() {
+            22 => format!("expected {wanted:016x}, got {got:016x}"),
+            _ => format!("expected {wanted}, got {got}"),
+        };
+        lines.push(format!("{whole} of {} places differ, first place {at}: {told}", pairs.len()));
     }
     lines
 }

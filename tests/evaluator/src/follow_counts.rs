@@ -39,8 +39,7 @@ fn of_gates(inputs: usize, probes: &[Option<Probe>]) -> Vec<(&'static str, usize
 
 /// What a script is, its lent places and its end.
 fn of_script(follow: &Follow, answer: &Answer, probes: &[Option<Probe>]) -> Vec<(&'static str, bool)> {
-    let used = follow.table.buffer.len().min(follow.table.used as usize);
-    let [inputs, gates, _] = census(&records(&follow.table.buffer[..used]));
+    let [inputs, gates, _] = census(&follow.table.records());
     let (places, refusal) = (follow.places.len(), answer.refusal.map_or(0, |refusal| refusal.number));
     let few = places < gates;
     let steps = records(&follow.script);

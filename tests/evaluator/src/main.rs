@@ -2,6 +2,14 @@
 //! its own answer, worked out from the specification (docs/SPEC.md) alone.
 
 mod answer;
+mod at_once;
+#[cfg(test)]
+mod at_once_case_tests;
+mod at_once_counts;
+#[cfg(test)]
+mod at_once_refusal_tests;
+#[cfg(test)]
+mod at_once_tests;
 #[cfg(test)]
 mod block_case_tests;
 mod block_counts;
@@ -65,25 +73,27 @@ evaluator [--seed S] [--count N] [--ops 1,2,3,...] [--save FILE] -- PROGRAM [ARG
 Starts PROGRAM (majpipe, perhaps behind an emulator) and compares N of its replies with its own answers.
 Of what steps and translations leave it also asks the limits of depth, that a step but sweep leaves what stood below its gate, that the
 gate to which a place of operation 28 leads has its first value, and that operation 16 makes no more RM3 operations than operation 6.
-In 2500 requests or more it must meet tables that have gates and depth 0.
+In 3000 requests or more it must meet tables that have gates and depth 0.
   --seed S     the run's seed (default 1); the same seed, count and operations give the same run
   --count N    how many requests (default 4000)
-  --ops LIST   the operations to ask, 1 to 8, 16 and 28 (default all)
+  --ops LIST   the operations to ask, 1 to 8, 16, 22, 23 and 28 (default all)
   --save FILE  where to write the bytes of the request that met a difference, for PROGRAM's standard input
 
-How the count is spread: of 32 requests operations 1 to 8 get 3, 2, 1, 8, 4, 3, 2 and 2, operation 16 gets 3 and operation 28 gets 4
-(those listed keep their shares). Each operation deals its kinds of cases from a shuffled deck, so that every kind comes once before one
+How the count is spread: of 38 requests operations 1 to 8 get 3, 2, 1, 8, 4, 3, 2 and 2, operations 16, 22 and 23 get 3 each and
+operation 28 gets 4 (those listed keep their shares). Each operation deals its kinds of cases from a shuffled deck, so that every kind comes once before one
 comes again beyond its weight, and a kind goes through its variants in turn. Every 100th request of an operation is a
-rare one: a part of 65,536 bytes, or for operations 5 and 28 at times a script of 5,000 to 8,192 steps, or 8,192 places.
+rare one: a part of 65,536 bytes, or for operations 5 and 28 at times a script of 5,000 to 8,192 steps, for 22, 23 and
+28 8,192 places, and for 23 a table of 16 inputs and hundreds of gates.
 More than half the scripts are stored ones, of the time before rule 10: PROGRAM gets them converted, and must do with
 them what they did then.
-With 2500 requests or more a run fails also when a refusal or a rule of its operations, one of the edges that refusal 5
+With 3000 requests or more a run fails also when a refusal or a rule of its operations, one of the edges that refusal 5
 carries, a refusal of a rule by operation 4 or 5, equal, opposite or other edges by rule 2 or 10, a stored script of each
 sort, what may become of a followed gate, or one of the ways of blocks was never met: tables of block 0, of another and of
 several, refusals of a kind by each of its bytes, shares within a block and across two, insertions and helpers among blocks,
 rules with a high byte; or where operation 6 or 16 never met one of the 27 RM3 patterns, an inverse that is needed again in one of
 the ways (in a plain middle, in another inverted edge, in another gate, within one, by an output, in another block), or an out buffer
-exactly full or one byte short in the other mode.
+exactly full or one byte short in the other mode; or where operation 22 or 23 never met one of the numbers of inputs, 0 to 18, one of the
+sorts of first assignments and of places, refusals 15, 6 and 11 at once, or outputs that would be true past 2^n.
 The exit status is 0 where all replies are as expected, 1 where not, and 2 for bad usage.
 ";
 
@@ -128,7 +138,7 @@ fn operations(list: &str) -> Result<Vec<u8>, String> {
     let known = request::operations();
     let numbers = list.split(',').map(|word| word.parse().ok().filter(|number| known.contains(number)));
     let numbers: Option<Vec<u8>> = numbers.collect();
-    let mut numbers = numbers.ok_or(format!("--ops: {list} is no list of operations 1 to 8, 16 and 28"))?;
+    let mut numbers = numbers.ok_or(format!("--ops: {list} is no list of operations 1 to 8, 16, 22, 23 and 28"))?;
     numbers.sort_unstable();
     numbers.dedup();
     Ok(numbers)

@@ -1,11 +1,13 @@
 //! A request as it goes through the pipe.
 
+use crate::at_once::{Asked, AtOnce};
 use crate::follow::Follow;
 use crate::reading::Reading;
 use crate::rm3::Mode;
 use crate::step::Step;
 use crate::stored::Stored;
 use crate::table::{read, records, Network, Record, Refusal};
+use std::mem::size_of;
 
 /// A lent buffer and the length of it that is said to be used.
 #[derive(Clone, Debug)]
@@ -17,6 +19,11 @@ pub struct Table {
 impl Table {
     pub fn network(&self) -> Result<Network, Refusal> {
         read(&self.buffer, self.used, None)
+    }
+
+    /// The records that are said to be used, as far as the buffer has them.
+    pub fn records(&self) -> Vec<Record> {
+        records(&self.buffer[..self.buffer.len().min(self.used as usize)])
     }
 }
 
@@ -38,11 +45,12 @@ pub enum Request {
     Rm3(Mode, Table, Vec<u8>),
     ReadingEvaluate(Reading, u32),
     ReadingReport(Reading),
+    AtOnce(AtOnce),
     Follow(Follow),
 }
 
 /// The operations and their calls.
-const CALLS: [(u8, &str); 10] = [
+const CALLS: [(u8, &str); 12] = [
     (1, "check"),
     (2, "evaluate"),
     (3, "report"),
@@ -52,6 +60,8 @@ const CALLS: [(u8, &str); 10] = [
     (7, "evaluate through a reading"),
     (8, "report through a reading"),
     (16, "RM3 table"),
+    (22, "words"),
+    (23, "totals"),
     (28, "follow"),
 ];
 
@@ -78,9 +88,9 @@ fn lent(name: &'static str, bytes: &[u8]) -> [Part; 2] {
     [number("length", bytes.len() as u32), (name, bytes.to_vec())]
 }
 
-/// Places as they are sent, and come back.
-pub fn place_bytes(places: &[u16]) -> Vec<u8> {
-    places.iter().flat_map(|place| place.to_le_bytes()).collect()
+/// Places as they are sent, and come back: those of gates have 16 bits, those of outputs 64.
+pub fn place_bytes<P: Copy + Into<u64>>(places: &[P]) -> Vec<u8> {
+    places.iter().flat_map(|&place| place.into().to_le_bytes().into_iter().take(size_of::<P>())).collect()
 }
 
 impl Request {
@@ -95,6 +105,8 @@ impl Request {
             Request::ReadingEvaluate(..) => 7,
             Request::ReadingReport(..) => 8,
             Request::Rm3(Mode::Once, ..) => 16,
+            Request::AtOnce(AtOnce { asked: Asked::Words(_), .. }) => 22,
+            Request::AtOnce(AtOnce { asked: Asked::Totals, .. }) => 23,
             Request::Follow(_) => 28,
         }
     }
@@ -107,6 +119,7 @@ impl Request {
             | Request::Step(table, _)
             | Request::Script(table, _)
             | Request::Stored(Stored { table, .. })
+            | Request::AtOnce(AtOnce { table, .. })
             | Request::Follow(Follow { table, .. })
             | Request::Rm3(_, table, _) => Subject::Table(table),
             Request::ReadingEvaluate(reading, _) | Request::ReadingReport(reading) => Subject::Reading(reading),
@@ -124,7 +137,7 @@ impl Request {
     /// The records that the request is about, as far as the buffer has them.
     pub fn records(&self) -> Vec<Record> {
         match self.subject() {
-            Subject::Table(Table { used, buffer }) => records(&buffer[..buffer.len().min(*used as usize)]),
+            Subject::Table(table) => table.records(),
             Subject::Reading(reading) => records(&reading.records),
         }
     }
@@ -156,6 +169,13 @@ impl Request {
             Request::Stored(stored) => parts.extend(lent("script", &stored.converted)),
             Request::Follow(Follow { script, places, .. }) => {
                 parts.extend(lent("script", script));
+                parts.push(number("count", places.len() as u32));
+                parts.push(("places", place_bytes(places)));
+            }
+            Request::AtOnce(AtOnce { asked, places, .. }) => {
+                if let Asked::Words(first) = asked {
+                    parts.push(number("first", *first));
+                }
                 parts.push(number("count", places.len() as u32));
                 parts.push(("places", place_bytes(places)));
             }

@@ -23,7 +23,7 @@ pub struct Difference {
 
 /// From this many requests on, a run must meet every refusal, bad edge and rule that its operations can meet, gates that no
 /// output reaches, and helpers that are reused.
-pub const ENOUGH: usize = 2500;
+pub const ENOUGH: usize = 3000;
 
 /// How a run asks: the request and the length of its reply, which comes back whole or as what went wrong.
 pub type Ask<'a> = &'a mut dyn FnMut(&Request, usize) -> Result<Vec<u8>, String>;

@@ -1,6 +1,7 @@
 //! The sheet of small tables, P1 to P10, and the cases beside it, with the specification's literal numbers.
 
 use crate::answer::{answer, Answer};
+use crate::at_once::{Asked, AtOnce};
 use crate::reading::Reading;
 use crate::request::{Request, Table};
 use crate::rm3::{translate, Mode, Operation, Rm3};
@@ -176,6 +177,7 @@ fn bad_edge_of_every_call() {
     let records = [[1, 0, 0, 0], [2, 2, 4, 0], [3, 4, 0, 0]];
     let bad = || table(&records);
     let reading = || Reading { counts: [1, 1, 1], records: record_bytes(&records) };
+    let at_once = |asked| Request::AtOnce(AtOnce { table: bad(), asked, places: vec![0x0909_0909_0909_0909] });
     let (step, bytes) = (Step::of([0, 0, 0, 0]), record_bytes(&records));
     let requests = [
         (Request::Check(bad()), vec![0, 0, 0], vec![]),
@@ -185,6 +187,8 @@ fn bad_edge_of_every_call() {
         (Request::Script(bad(), vec![0]), vec![0, 24], bytes),
         (Request::Rm3(Mode::Anew, bad(), vec![9]), vec![0], vec![9]),
         (Request::Rm3(Mode::Once, bad(), vec![9]), vec![0], vec![9]),
+        (at_once(Asked::Words(1)), vec![0], vec![9; 8]),
+        (at_once(Asked::Totals), vec![0], vec![9; 8]),
         (Request::ReadingEvaluate(reading(), 2), vec![0], vec![]),
         (Request::ReadingReport(reading()), vec![0, 0], vec![]),
     ];

@@ -12,7 +12,7 @@ use crate::table::{read, Refusal, MOST_GATES};
 use crate::value::outputs;
 
 /// How many requests the gate asks (the script `test`).
-pub const GATE: usize = 14_400;
+pub const GATE: usize = 17_100;
 
 /// No accepted step changes an output, under any assignment.
 #[test]

@@ -79,7 +79,7 @@ fn share(operation: u8) -> usize {
     match operation {
         4 => 8,
         5 | 28 => 4,
-        1 | 6 | 16 => 3,
+        1 | 6 | 16 | 22 | 23 => 3,
         2 | 7 | 8 => 2,
         _ => 1,
     }

@@ -8,7 +8,7 @@ use crate::follow::Follow;
 use crate::random::Random;
 use crate::request::{Request, Table};
 use crate::step::Step;
-use crate::table::{census, records, Network, MOST_GATES};
+use crate::table::{census, Network, MOST_GATES};
 
 /// The most places that a request may lend.
 const MOST_PLACES: usize = 8192;
@@ -36,8 +36,7 @@ fn enough(random: &mut Random, turn: usize, script: Request) -> Request {
 
 /// A script on any table, sound or not, and places that may be too few.
 pub fn any_places(random: &mut Random, table: Table, script: Vec<u8>) -> Request {
-    let used = table.buffer.len().min(table.used as usize);
-    let [_, gates, _] = census(&records(&table.buffer[..used]));
+    let [_, gates, _] = census(&table.records());
     let count = random.pick(&[gates, gates, gates + 1, gates + 9, gates.saturating_sub(1), 0]);
     request(random, table, script, count.min(MOST_PLACES))
 }

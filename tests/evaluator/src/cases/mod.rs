@@ -1,6 +1,7 @@
 //! The case makers: every edge of the specification is made on purpose, in an order that the seed mixes.
 
 mod assignments;
+mod at_once;
 mod blocks;
 mod damage;
 mod deck;
@@ -21,6 +22,7 @@ mod voters;
 
 pub use deck::{Case, Dealer};
 
+use crate::at_once::Asked;
 use crate::random::Random;
 use crate::request::{Request, Table};
 use crate::rm3::Mode;
@@ -40,6 +42,8 @@ fn kinds(operation: u8) -> Vec<Kind> {
         7 => readings::evaluate_kinds(),
         8 => readings::report_kinds(),
         16 => translations::kinds(Mode::Once),
+        22 => at_once::word_kinds(),
+        23 => at_once::total_kinds(),
         28 => follows::kinds(),
         _ => vec![],
     };
@@ -81,6 +85,11 @@ fn around(operation: u8, random: &mut Random, table: Table) -> Request {
                 false => Request::Script(table, script),
             }
         }
+        22 => {
+            let first = at_once::any_first(random);
+            at_once::any_places(random, table, Asked::Words(first))
+        }
+        23 => at_once::any_places(random, table, Asked::Totals),
         28 => {
             let script = any_script(random);
             follows::any_places(random, table, script)
