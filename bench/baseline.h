@@ -6,6 +6,10 @@
 
 struct pulpgarnet_checked plain_check(const uint8_t *table, size_t length, size_t used);
 struct pulpgarnet_valued plain_evaluate(const uint8_t *table, size_t length, size_t used, uint32_t assignment);
+struct pulpgarnet_placed plain_words(const uint8_t *table, size_t length, size_t used, uint32_t first,
+                                     uint64_t *places, size_t places_count);
+struct pulpgarnet_placed plain_totals(const uint8_t *table, size_t length, size_t used,
+                                      uint64_t *places, size_t places_count);
 struct pulpgarnet_reported plain_report(const uint8_t *table, size_t length, size_t used);
 struct pulpgarnet_stepped plain_step(uint8_t *table, size_t length, size_t used,
                                      uint16_t rule, uint16_t gate, uint16_t a, uint16_t b);

@@ -2,11 +2,12 @@
  * Measures the library against the plain baseline, in turn on the same inputs, and stops where they do not answer the same.
  *
  *   bench [MARK]         prints the times of both at three sizes, and how our time grows as the table doubles
- *   bench inputs         writes the inputs of all rows, each twice: what `bench traced` reads
+ *   bench inputs         writes the inputs of the rows that are one call, each twice: what `bench traced` reads
  *   bench traced         asks ours and theirs in turn, each call between two lines, so that a trace shows its instructions
  *
  * A step is asked of the gate in the middle, which has the rule's form; where a rule inserts, the largest table has 1,022 gates.
  * A voter is asked of the gate at a third and all but doubles the gates, so its largest table has 512.
+ * Words, totals and the single evaluations beside them are asked of tables of 16 inputs.
  */
 #include <stdio.h>
 #include <stdlib.h>
@@ -15,7 +16,8 @@
 
 enum { RECORD = 8, MOST_GATES = 1024, MOST_TABLE = RECORD * (32 + MOST_GATES + 32), MOST_RM3 = 25344 };
 enum { STEPS = 64, SPARE = RECORD * 2 * STEPS, MOST_BUFFER = MOST_TABLE + SPARE };
-enum { ROUNDS = 201, MOST_COPIES = 64, COPIED = 32768 };
+enum { ROUNDS = 201, FEW_ROUNDS = 5, MOST_COPIES = 64, COPIED = 32768 };
+enum { AT_ONCE = 16, MOST_OUTPUTS = 32 };
 
 struct timespec { long seconds, nanoseconds; };
 
@@ -34,6 +36,8 @@ struct side {
     struct pulpgarnet_checked (*check)(const uint8_t *, size_t, size_t);
     struct pulpgarnet_valued (*evaluate)(const uint8_t *, size_t, size_t, uint32_t);
     struct pulpgarnet_reported (*report)(const uint8_t *, size_t, size_t);
+    struct pulpgarnet_placed (*words)(const uint8_t *, size_t, size_t, uint32_t, uint64_t *, size_t);
+    struct pulpgarnet_placed (*totals)(const uint8_t *, size_t, size_t, uint64_t *, size_t);
     struct pulpgarnet_stepped (*step)(uint8_t *, size_t, size_t, uint16_t, uint16_t, uint16_t, uint16_t);
     struct pulpgarnet_ran (*script)(uint8_t *, size_t, size_t, const uint8_t *, size_t);
     struct pulpgarnet_ran (*follow)(uint8_t *, size_t, size_t, const uint8_t *, size_t, uint16_t *, size_t);
@@ -43,13 +47,15 @@ struct side {
 };
 
 static const struct side SIDES[2] = {
-    { pulpgarnet_check, pulpgarnet_evaluate, pulpgarnet_report, pulpgarnet_step, pulpgarnet_script, pulpgarnet_follow,
-      pulpgarnet_translate, pulpgarnet_translate_anew, pulpgarnet_rm3_depth },
-    { plain_check, plain_evaluate, plain_report, plain_step, plain_script, plain_follow, plain_translate,
-      plain_translate_anew, plain_rm3_depth },
+    { pulpgarnet_check, pulpgarnet_evaluate, pulpgarnet_report, pulpgarnet_words, pulpgarnet_totals, pulpgarnet_step,
+      pulpgarnet_script, pulpgarnet_follow, pulpgarnet_translate, pulpgarnet_translate_anew, pulpgarnet_rm3_depth },
+    { plain_check, plain_evaluate, plain_report, plain_words, plain_totals, plain_step, plain_script, plain_follow,
+      plain_translate, plain_translate_anew, plain_rm3_depth },
 };
 
-enum call { NOTHING, CHECK, EVALUATE, REPORT, STEP, SCRIPT, FOLLOW, TRANSLATE, TRANSLATE_ANEW, RM3_DEPTH };
+enum call {
+    NOTHING, CHECK, EVALUATE, REPORT, WORDS, TOTALS, EVERY, STEP, SCRIPT, FOLLOW, TRANSLATE, TRANSLATE_ANEW, RM3_DEPTH
+};
 
 struct row { const char *name; enum call call; uint16_t rule; };
 
@@ -57,6 +63,9 @@ static const struct row ROWS[] = {
     { "check", CHECK, 0 },
     { "evaluate", EVALUATE, 0 },
     { "report", REPORT, 0 },
+    { "words", WORDS, 0 },
+    { "totals", TOTALS, 0 },
+    { "evaluate 65,536 times", EVERY, 0 },
     { "step 1 exchange", STEP, 1 },
     { "step 2 majority", STEP, 2 },
     { "step 3 associativity", STEP, 3 },
@@ -83,7 +92,7 @@ struct input {
     unsigned inputs, gates, outputs;
     size_t used, length;
     uint8_t table[MOST_BUFFER];
-    uint32_t assignment;
+    uint32_t assignment, first;
     uint16_t rule, gate, a, b;
     uint8_t steps[RECORD * STEPS];
 };
@@ -92,6 +101,20 @@ struct reply { uint64_t numbers[6]; };
 
 static uint8_t out[MOST_RM3];
 static uint16_t places[MOST_GATES];
+static uint64_t long_places[MOST_OUTPUTS];
+
+/* What totals tells, by an evaluation of each assignment. It is no part of `ask`, so that its loop costs the other calls nothing. */
+__attribute__((noinline)) static void ask_every(const struct side *side, const struct input *in, uint8_t *table, uint64_t *n)
+{
+    n[0] = 0;
+    memset(long_places, 0, sizeof long_places);
+    for (uint32_t assignment = 0; assignment >> AT_ONCE == 0 && n[0] == 0; assignment++) {
+        struct pulpgarnet_valued r = side->evaluate(table, in->length, in->used, assignment);
+        for (unsigned j = 0; j < in->outputs; j++)
+            long_places[j] += r.outputs >> j & 1;
+        n[0] = r.refusal, n[1] = r.record, n[2] = r.edge;
+    }
+}
 
 __attribute__((noinline)) static void ask(const struct side *side, const struct input *in, uint8_t *table,
                                           struct reply *reply)
@@ -115,6 +138,19 @@ __attribute__((noinline)) static void ask(const struct side *side, const struct 
         n[0] = r.refusal, n[1] = r.record, n[2] = r.edge, n[3] = r.size, n[4] = r.depth;
         break;
     }
+    case WORDS: {
+        struct pulpgarnet_placed r = side->words(table, in->length, in->used, in->first, long_places, MOST_OUTPUTS);
+        n[0] = r.refusal, n[1] = r.record, n[2] = r.edge, n[3] = r.places;
+        break;
+    }
+    case TOTALS: {
+        struct pulpgarnet_placed r = side->totals(table, in->length, in->used, long_places, MOST_OUTPUTS);
+        n[0] = r.refusal, n[1] = r.record, n[2] = r.edge, n[3] = r.places;
+        break;
+    }
+    case EVERY:
+        ask_every(side, in, table, n);
+        break;
     case STEP: {
         struct pulpgarnet_stepped r = side->step(table, in->length, in->used, in->rule, in->gate, in->a, in->b);
         n[0] = r.refusal, n[1] = r.record, n[2] = r.edge, n[3] = r.used;
@@ -258,6 +294,8 @@ static unsigned most_gates(unsigned rule)
     return rule == 9 ? MOST_GATES / 2 : 3 <= rule && rule <= 5 ? MOST_GATES - 2 : MOST_GATES;
 }
 
+static int is_at_once(enum call call) { return call == WORDS || call == TOTALS || call == EVERY; }
+
 static void make_input(struct input *in, const struct row *row, unsigned gates)
 {
     memset(in, 0, sizeof *in);
@@ -266,7 +304,7 @@ static void make_input(struct input *in, const struct row *row, unsigned gates)
     in->rule = row->rule;
     in->gates = gates > most_gates(row->rule) ? most_gates(row->rule) : gates;
     in->outputs = (in->gates + 31) / 32 < 2 ? 2 : (in->gates + 31) / 32;
-    in->inputs = in->outputs < 4 ? 4 : in->outputs;
+    in->inputs = is_at_once(row->call) ? AT_ONCE : in->outputs < 4 ? 4 : in->outputs;
     unsigned nodes = in->inputs + in->gates;
     for (unsigned node = 1; node <= nodes; node++) {
         static const unsigned FORMS[16] = { 2, 3, 5, 7 };
@@ -282,6 +320,7 @@ static void make_input(struct input *in, const struct row *row, unsigned gates)
     unsigned copied = in->gates / 3;
     in->length = in->used + (row->rule == 9 ? RECORD * 3 * copied : SPARE);
     in->assignment = in->inputs == 32 ? (uint32_t)seed : (uint32_t)seed & ((1u << in->inputs) - 1);
+    in->first = in->assignment / 64 * 64;
     if (row->call == STEP && row->rule != 8) {
         unsigned gate = in->inputs + (row->rule == 9 ? copied : in->gates / 2 + 1);
         plant(in->table, gate, row->rule);
@@ -299,21 +338,25 @@ static void compare_refusal(const struct input *in, uint64_t refusal, uint64_t r
 {
     static uint8_t tables[2][MOST_BUFFER], outs[2][MOST_RM3];
     static uint16_t places_left[2][MOST_GATES];
+    static uint64_t long_places_left[2][MOST_OUTPUTS];
     struct reply replies[2];
     memset(replies, 0, sizeof replies);
     for (int s = 0; s < 2; s++) {
         memcpy(tables[s], in->table, MOST_BUFFER);
         memset(out, 0xa5, sizeof out);
         memset(places, 0xa5, sizeof places);
+        memset(long_places, 0xa5, sizeof long_places);
         ask(&SIDES[s], in, tables[s], &replies[s]);
         memcpy(outs[s], out, sizeof out);
         memcpy(places_left[s], places, sizeof places);
+        memcpy(long_places_left[s], long_places, sizeof long_places);
     }
     const uint64_t *n = replies[0].numbers;
     const char *wrong = memcmp(&replies[0], &replies[1], sizeof replies[0]) != 0 ? "has two replies"
         : n[0] != refusal || n[1] != record || n[2] != edge ? "has another refusal"
         : memcmp(tables[0], tables[1], MOST_BUFFER) != 0 || memcmp(outs[0], outs[1], sizeof out) != 0 ? "leaves two results"
-        : memcmp(places_left[0], places_left[1], sizeof places) != 0 ? "leaves two sorts of places"
+        : memcmp(places_left[0], places_left[1], sizeof places) != 0
+            || memcmp(long_places_left[0], long_places_left[1], sizeof long_places) != 0 ? "leaves two sorts of places"
         : 0;
     if (wrong) {
         printf("bench: %s gates: %s\n", in->label, wrong);
@@ -354,8 +397,11 @@ static uint64_t now(void)
 static unsigned copies_of(const struct input *in)
 {
     unsigned copies = COPIED / (unsigned)in->used;
-    return copies > MOST_COPIES ? MOST_COPIES : copies;
+    return in->call == EVERY ? 1 : copies > MOST_COPIES ? MOST_COPIES : copies;
 }
+
+/* How often that is done; 65,536 evaluations are many rounds by themselves. */
+static unsigned rounds_of(const struct input *in) { return in->call == EVERY ? FEW_ROUNDS : ROUNDS; }
 
 /* How long one side takes for the call on each of the copies, which are made anew before the clock starts. */
 static uint64_t timed(const struct side *side, const struct input *in)
@@ -391,7 +437,8 @@ static int is_shown(unsigned k) { return k == 0 || k == 2 || k == 4; }
 static void measure(const struct input *ins, double times[SIZE_COUNT][2])
 {
     static uint64_t rounds[SIZE_COUNT][2][ROUNDS];
-    for (unsigned r = 0; r < ROUNDS; r++)
+    unsigned count = rounds_of(ins);
+    for (unsigned r = 0; r < count; r++)
         for (unsigned k = 0; k < SIZE_COUNT; k++)
             for (unsigned turn = 0; turn < 2; turn++) {
                 unsigned s = (r + turn) % 2;
@@ -399,8 +446,8 @@ static void measure(const struct input *ins, double times[SIZE_COUNT][2])
             }
     for (unsigned k = 0; k < SIZE_COUNT; k++)
         for (unsigned s = 0; s < 2; s++) {
-            qsort(rounds[k][s], ROUNDS, sizeof rounds[k][s][0], by_size);
-            times[k][s] = (double)rounds[k][s][ROUNDS / 2] / copies_of(&ins[k]);
+            qsort(rounds[k][s], count, sizeof rounds[k][s][0], by_size);
+            times[k][s] = (double)rounds[k][s][count / 2] / copies_of(&ins[k]);
         }
 }
 
@@ -440,7 +487,7 @@ static void write_inputs(void)
         fwrite(&in, sizeof in, 1, stdout);
     for (unsigned i = 0; i < COUNT; i++)
         for (unsigned k = 0; k < SIZE_COUNT; k++)
-            if (is_shown(k)) {
+            if (is_shown(k) && ROWS[i].call != EVERY) {
                 make_input(&in, &ROWS[i], SIZES[k]);
                 compare(&in);
                 for (unsigned s = 0; s < 2; s++)
