@@ -10,7 +10,7 @@ use Rattle.majority.specs.declared.Record.{Record}
 use Rattle.tables.specs.Bytes.{tableOf, encode, putRecord, holding}
 use Rattle.tables.proofs.Decoded.{length-table, table-at}
 use Rattle.tables.proofs.Encoded.{Bytes, length-encode, encoded-at, holding-length}
-use Rattle.editing.proofs.HoldsFirst.{HoldsFirst, first-same, first-put, first-holding}
+use Rattle.tables.proofs.HoldsFirst.{HoldsFirst, first-same, first-put, first-holding}
 
 -- the buffer ys holds the table t, and is otherwise as xs
 abbrev pub Holds : List ℕ → List Record → List ℕ → Type 0

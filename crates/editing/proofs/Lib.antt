@@ -1,4 +1,3 @@
-pub mod HoldsFirst  -- the first records are those wanted, the rest is untouched
 pub mod Changed  -- the records of a table that was changed, or has grown
 pub mod Loops  -- the loops that edit records
 pub mod Holds  -- a table held at a buffer's front, told byte by byte

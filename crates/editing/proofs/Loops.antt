@@ -15,8 +15,8 @@ use Rattle.majority.proofs.Logic.{neither}
 use Rattle.tables.specs.Bytes.{recordIn, decode, tableOf, recordsOf, putRecord, holding}
 use Rattle.tables.proofs.Decoded.{length-decode, decode-at, length-table, table-at}
 use Rattle.tables.proofs.Encoded.{Bytes}
+use Rattle.tables.proofs.HoldsFirst.{HoldsFirst, mixed, mixed-low, mixed-high, first-same, first-up, first-down, first-kept, first-holding}
 use Rattle.editing.specs.Edited.{changedFrom, raise16, grown, noRoom, insertedAt, roomAt}
-use Rattle.editing.proofs.HoldsFirst.{HoldsFirst, mixed, mixed-low, mixed-high, first-same, first-up, first-down, first-kept, first-holding}
 use Rattle.editing.proofs.Changed.{changed-length, changed-low, changed-high, grown-length, grown-low, grown-new, grown-high}
 
 -- a record that the code reads, where the buffer has it

@@ -1,4 +1,5 @@
 pub mod Logic  -- the parts of a test that failed, or held
+pub mod Every  -- a test of every entry of a table is a test of each
 pub mod Seek  -- a search, one turn at a time, and what it finds
 pub mod Pass  -- a pass over records: the equation that each worth meets
 pub mod Nodes  -- the equation of each node, induction over nodes, congruence

@@ -15,8 +15,8 @@ use Rattle.majority.specs.Edit.{edges}
 use Rattle.rules.specs.Voter.{inBlock}
 use Rattle.majority.specs.declared.Record.{Record}
 use Rattle.tables.specs.Bytes.{recordIn, recordsOf, putRecord}
+use Rattle.tables.proofs.HoldsFirst.{HoldsFirst, mixed, mixed-low, mixed-high, first-same, first-down}
 use Rattle.editing.specs.Edited.{raise16}
-use Rattle.editing.proofs.HoldsFirst.{HoldsFirst, mixed, mixed-low, mixed-high, first-same, first-down}
 use Rattle.editing.proofs.Loops.{read}
 use Rattle.rewriting.specs.inner.Copied.{above, copyEdge, copyingOf, replacedBy, riseBy, copiedBy, Copyable, Copied}
 use Rattle.rewriting.proofs.Edits.{same-edges}

@@ -27,8 +27,8 @@ use Rattle.tables.specs.Bytes.{recordIn, decode, tableOf, recordsOf, putRecord,
 use Rattle.tables.specs.Sound.{tableIn}
 use Rattle.tables.proofs.Decoded.{length-decode, decode-at, length-table, table-at}
 use Rattle.tables.proofs.Encoded.{Bytes}
+use Rattle.tables.proofs.HoldsFirst.{HoldsFirst, mixed, mixed-low, mixed-high}
 use Rattle.editing.specs.Edited.{raise16, grown, noRoom, insertedAt, roomAt}
-use Rattle.editing.proofs.HoldsFirst.{HoldsFirst, mixed, mixed-low, mixed-high}
 use Rattle.editing.proofs.Changed.{grown-length, grown-low, grown-new, grown-high}
 use Rattle.editing.proofs.Inserted.{Inserted, inserted-start, inserted-end}
 use Rattle.rewriting.specs.inner.Fitting.{AtGate, Room, Votable}

@@ -7,5 +7,6 @@ pub mod Encoded  -- an accepted buffer is the encoding of its table, and the res
 pub mod AfterCheck  -- what a call that checks first knows and replies
 pub mod PutField  -- bytes after a field was put
 pub mod Put  -- records after a record was put
+pub mod HoldsFirst  -- the first records are those wanted, the rest is untouched
 pub mod Claims  -- claimed counts that are those found give the plain reply
 pub mod InPlaces  -- lent places of which the first were changed

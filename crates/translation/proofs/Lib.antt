@@ -20,5 +20,4 @@ pub mod Rm3ByRecord  -- the translation, record by record
 pub mod Rm3Levels  -- levels, told from the majority table
 pub mod Rm3Modes  -- the modes have the same depth
 -- the patterns
-mod Every  -- a test of every entry is a test of each
 pub mod PatternTable  -- the 27 patterns are what the words say

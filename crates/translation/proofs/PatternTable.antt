@@ -11,9 +11,9 @@ use Rattle.majority.specs.If.{if_then_else_}
 use Rattle.translation.specs.Translate.{Class, constant, plain, inverted, classOf, middle, needsHelper}
 use Rattle.majority.specs.declared.Record.{Record}
 use Rattle.majority.proofs.Logic.{both}
+use Rattle.majority.proofs.Every.{every-at}
 use Rattle.translation.specs.Patterns.{classNumber, patternBy, patternOf}
 use Rattle.translation.specs.declared.Pattern.{Pattern}
-use Rattle.translation.proofs.Every.{every-at}
 
 -- the table in the code
 abbrev pub patterns : List ℕ
