@@ -1,10 +1,9 @@
 -- One step takes a buffer that holds an accepted table to another such buffer, and keeps what it must between the two tables; sweep keeps depth itself, every other rule what stood below g, and what a step inserts
 -- has its gate's block.
-use Prim.Native.Nat.{ℕ, suc, _+_, _*_, _/_, _%_, _≤_, _<_}
-use mathlib.Core.Path.{_≡_, refl, sym, _∙_}
+use Prim.Native.Nat.{ℕ, suc, _+_, _*_, _/_, _≤_, _<_}
+use mathlib.Core.Path.{_≡_, refl, sym, ap, _∙_}
 use mathlib.Core.List.{List}
 use native.Mathlib.Omega.{arith}
-use borrow.Author.Tests.{le-ltb, eq-eqb}
 use lib.ListN.{length}
 use Rattle.refusals.specs.Reply.{Reply, accepted, refused, andThen}
 use Rattle.rules.specs.Kept.{Kept}
@@ -21,7 +20,7 @@ use Rattle.rules.proofs.Followed.{step-shows}
 use Rattle.rules.proofs.Steps.{step-kept, step-blocks, sweep-step-depth, step-lower, step-fits, step-accepted}
 use Rattle.tables.specs.Bytes.{tableOf}
 use Rattle.tables.specs.Calls.{checkOf}
-use Rattle.tables.proofs.Encoded.{accepted-records}
+use Rattle.tables.proofs.Encoded.{accepted-records, records-checked}
 use Rattle.rewriting.specs.Calls.{holdingInstead, afterReply, stepTable, stepOf, stepBytes}
 use Rattle.rewriting.proofs.SoundAfterStep.{instead-length, instead-table}
 use Rattle.demands.specs.Demand3.{KeepsDepth, SweepKeepsDepth}
@@ -41,11 +40,8 @@ module _ (t : List Record) (used : ℕ) (xs : List ℕ) where
 
   -- and is checked as its records are
   instead-check : used ≤ length xs → 8 * length t ≤ length xs → checkOf (holdingInstead t used xs) (8 * length t) ≡ checkRecords t
-  unfolding checkOf
   instead-check h fits =
-      let e : 8 * length t % 8 ≡ 0 = omega arith in
-      let l : 8 * length t ≤ length (holdingInstead t used xs) = omega (arith, instead-length t used xs h fits) in
-      rw (eq-eqb _ _ e, le-ltb _ _ l, last-table)
+      records-checked _ (8 * length t) (omega arith) (omega (arith, instead-length t used xs h fits)) ∙ ap checkRecords last-table
 
 -- the table that the step s makes of that of n inputs and m gates in xs, or the refusal
 abbrev outcome : List ℕ → ℕ → ℕ → ℕ → Step → Reply (List Record)

@@ -1,10 +1,8 @@
 -- A reading that is had from an accepted table answers as the plain calls do on that table; of a refused one it is refused with 3.
 use Prim.Native.Nat.{ℕ, _/_}
-use mathlib.Core.Path.{_≡_, refl}
+use mathlib.Core.Path.{_≡_, refl, _∙_}
 use mathlib.Core.List.{List, []}
-use native.Mathlib.Nat.{le-refl}
 use native.Mathlib.Omega.{arith}
-use borrow.Author.Tests.{eq-eqb, le-ltb}
 use lib.ListN.{length, take}
 use lib.Seq.{length-take-le}
 use Rattle.refusals.specs.Why.{Why, why}
@@ -18,7 +16,7 @@ use Rattle.tables.specs.Bytes.{decode, tableOf, recordsOf}
 use Rattle.tables.specs.Calls.{checkOf}
 use Rattle.tables.specs.Claimed.{checkCounted, checkClaimed, claimedCheck}
 use Rattle.tables.proofs.Decoded.{table-take}
-use Rattle.tables.proofs.Encoded.{accepted-records}
+use Rattle.tables.proofs.Encoded.{accepted-records, records-checked}
 use Rattle.tables.proofs.Claims.{accepted-claimed}
 use Rattle.questions.specs.Calls.{evaluateOf, reportOf, valueOf, sizeOf}
 use Rattle.questions.specs.Claimed.{claimedEvaluate, claimedReport}
@@ -35,10 +33,9 @@ module _ (xs : List ℕ) (used : ℕ) where
     part-table = rw part-length (table-take xs used (used / 8) (omega arith))
 
     part-check : checkOf (take used xs) (length (take used xs)) ≡ accepted c
-    unfolding checkOf
     part-check =
         let w = accepted-records xs used c is in
-        rw (part-length, eq-eqb _ _ (w .0), le-ltb used used (le-refl used), table-take xs used (used / 8) (omega arith)) (w .2)
+        rw part-length (records-checked (take used xs) used (w .0) (omega (arith, part-length)) ∙ rw (table-take xs used (used / 8) (omega arith)) (w .2))
 
     pub read-check : claimedCheck (partIn xs used) (countsIn xs used) ≡ checkOf xs used
     unfolding foundIn

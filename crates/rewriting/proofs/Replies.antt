@@ -1,9 +1,8 @@
 -- What a step replies and leaves, from the check and from what was applied.
-use Prim.Native.Nat.{ℕ, _+_, _*_, _/_, _%_, _≤_}
+use Prim.Native.Nat.{ℕ, _+_, _*_, _/_, _≤_}
 use mathlib.Core.Path.{_≡_, refl, sym, ap, _∙_}
 use mathlib.Core.List.{List}
 use native.Mathlib.Omega.{arith}
-use borrow.Author.Tests.{eq-eqb, le-ltb}
 use lib.ListN.{length}
 use Rattle.refusals.specs.Reply.{Reply, accepted, refused, andThen}
 use Rattle.majority.specs.Check.{count}
@@ -19,6 +18,7 @@ use Rattle.tables.specs.Said.{saidCheck}
 use Rattle.refusals.specs.declared.Refusal.{Refusal}
 use Rattle.tables.specs.declared.Checked.{Checked}
 use Rattle.tables.specs.declared.Checked.the-variants.{Refused}
+use Rattle.tables.proofs.Encoded.{records-checked}
 use Rattle.tables.proofs.Sound.{sound-accepted}
 use Rattle.tables.proofs.AfterCheck.{after-refused}
 use Rattle.rewriting.specs.inner.Applied.{usedBy, stepIn, saidApplied, AppliedTo}
@@ -60,11 +60,9 @@ not-taken (refused v) f w e = let same : v ≡ w = cc in ap refused same
 
 -- a sound table is accepted at its own length
 pub sound-checked : {xs : List ℕ} {c : Counts} → Sound xs c → checkOf xs (usedBy c) ≡ accepted c
-unfolding checkOf
 sound-checked {xs} {c} sound =
-    let whole : usedBy c % 8 ≡ 0 = omega arith in
     let count : usedBy c / 8 ≡ c .inputs + c .gates + c .outputs = omega arith in
-    rw (eq-eqb (usedBy c % 8) 0 whole, le-ltb (length xs) (usedBy c) (sound .fits), count) (sound .sound)
+    records-checked xs (usedBy c) (omega arith) (sound .fits) ∙ rw count (sound .sound)
 
 module _ {xs : List ℕ} {c : Counts} (sound : Sound xs c) (s : Step) where
   pub table-same : stepTable xs (usedBy c) s ≡ stepIn xs c s

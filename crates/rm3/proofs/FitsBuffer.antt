@@ -4,7 +4,7 @@ use mathlib.Core.Path.{_≡_, sym, _∙_}
 use mathlib.Core.Bool.{Bool, true, false}
 use mathlib.Core.List.{List}
 use native.Mathlib.Omega.{arith}
-use borrow.Author.Tests.{lt-ltb, le-ltb, leb-true, leb-false}
+use borrow.Author.Tests.{leb-true, leb-false}
 use lib.Dec.{leb}
 use lib.ListN.{length}
 use Rattle.refusals.specs.Why.{why}
@@ -16,6 +16,7 @@ use Rattle.translation.proofs.Rm3Formed.{translated-formed}
 use Rattle.translation.proofs.Rm3Size.{translated-size}
 use Rattle.tables.specs.Sound.{Sound, tableIn}
 use Rattle.tables.proofs.Sound.{sound-accepted, sound-formed}
+use Rattle.tables.proofs.Written.{fits-not, fits}
 use Rattle.rm3.specs.Calls.{rm3In}
 use Rattle.rm3.specs.inner.Laid.{operandsIn}
 
@@ -42,7 +43,7 @@ module _ (mode : Mode) {xs : List ℕ} {c : Counts} (sound : Sound xs c) where
   room-lacks room t is h = leb-false _ _ (sym is ∙ h)
 
   pub not-fitting : (room : ℕ) → room < 8 * (operandsIn mode (tableIn xs c) c + c .outputs) → rm3In mode room (tableIn xs c) c ≡ refused (why 11)
-  not-fitting room h = rw (fitting-size, lt-ltb room (8 * (operandsIn mode (tableIn xs c) c + c .outputs)) h)
+  not-fitting room h = fits-not room (translation mode (c .inputs) (c .gates) (tableIn xs c)) (rw fitting-size h)
 
   pub fitting : (room : ℕ) → 8 * (operandsIn mode (tableIn xs c) c + c .outputs) ≤ room → rm3In mode room (tableIn xs c) c ≡ accepted (translation mode (c .inputs) (c .gates) (tableIn xs c))
-  fitting room h = rw (fitting-size, le-ltb room (8 * (operandsIn mode (tableIn xs c) c + c .outputs)) h)
+  fitting room h = fits room (translation mode (c .inputs) (c .gates) (tableIn xs c)) (rw fitting-size h)

@@ -1,14 +1,9 @@
 -- What a reply of `translate` tells its caller: the length fits the buffer and covers inputs and outputs, the bytes of that length hold the RM3 table, whose records have their blocks, and 25,344 bytes are room for any table.
 use Prim.Native.Nat.{ℕ, _+_, _*_, _/_, _≤_}
-use mathlib.Core.Path.{_≡_, refl, sym, ap, _∙_}
-use mathlib.Core.Bool.{Bool, true, false}
+use mathlib.Core.Path.{_≡_, sym, ap, _∙_}
 use mathlib.Core.List.{List}
 use native.Mathlib.Omega.{arith}
-use borrow.Author.Tests.{ltb-false}
-use lib.Dec.{ltb}
 use lib.ListN.{length}
-use Rattle.refusals.specs.Why.{Why, why}
-use Rattle.majority.specs.If.{if_then_else_}
 use Rattle.translation.specs.Translate.{translation}
 use Rattle.translation.specs.Block3.{Blocks3}
 use Rattle.refusals.specs.Reply.{Reply, accepted, refused, andThen}
@@ -19,33 +14,20 @@ use Rattle.translation.proofs.Rm3Blocks.{translated-blocks}
 use Rattle.tables.specs.Bytes.{tableOf}
 use Rattle.tables.specs.Sound.{tableIn}
 use Rattle.tables.specs.Calls.{checkOf}
-use Rattle.tables.proofs.Encoded.{holding-table}
+use Rattle.tables.specs.Written.{inBytes}
+use Rattle.tables.proofs.Written.{apart, written-length, written-table}
 use Rattle.tables.proofs.AfterCheck.{checked-sound, checked-table}
 use Rattle.tables.proofs.Sound.{sound-formed}
-use Rattle.rm3.specs.Calls.{rm3In, rm3Of, inBytes, translateOf, afterReply, translateBytes}
+use Rattle.rm3.specs.Calls.{rm3In, rm3Of, translateOf, translateBytes}
 use Rattle.rm3.proofs.FitsBuffer.{fitting-size, fitting-small, fitting}
 
--- a reply is not both
-apart : {A : Type 0} {x : A} {w : Why} → _≡_ {A = Reply A} (refused w) (accepted x) → ⊥
-apart e = let z : _≡_ {A = ℕ} 0 1 = cc in omega arith
-
-same-length : {l k : ℕ} → _≡_ {A = Reply ℕ} (accepted k) (accepted l) → k ≡ l
-same-length e = cc
-
 module _ (mode : Mode) (xs : List ℕ) (used room l : ℕ) (is : accepted l ≡ translateOf mode xs used room) where
-  in-room : (ts : List Record) → andThen (if ltb room (8 * length ts) then refused (why 11) else accepted ts) inBytes ≡ accepted l → l ≤ room
-  in-room ts = go (ltb room (8 * length ts)) refl
-    where
-      go : (t : Bool) → ltb room (8 * length ts) ≡ t → andThen (if t then refused (why 11) else accepted ts) inBytes ≡ accepted l → l ≤ room
-      go true q e = absurd (apart e)
-      go false q e = omega (arith, ltb-false room (8 * length ts) q, same-length e)
-
   pub reply-fits : l ≤ room
   unfolding translateOf rm3Of
   reply-fits = go (checkOf xs used) (sym is)
     where
       go : (k : Reply Counts) → andThen (andThen k (rm3In mode room (tableOf xs (used / 8)))) inBytes ≡ accepted l → l ≤ room
-      go (accepted c) e = in-room (translation mode (c .inputs) (c .gates) (tableOf xs (used / 8))) e
+      go (accepted c) e = written-length room l (translation mode (c .inputs) (c .gates) (tableOf xs (used / 8))) e .1
       go (refused w) e = absurd (apart e)
 
 module _ (mode : Mode) (xs : List ℕ) (used room : ℕ) (c : Counts) (checked : checkOf xs used ≡ accepted c) where
@@ -59,11 +41,9 @@ module _ (mode : Mode) (xs : List ℕ) (used room : ℕ) (c : Counts) (checked :
   -- the counts of the table are among the records of the reply's
   pub reply-counts : (l : ℕ) → accepted l ≡ translateOf mode xs used room → c .inputs + c .outputs ≤ l / 8
   unfolding translateOf
-  reply-counts l is = go (ltb room (8 * length ts)) (sym (is ∙ ap (λ (k : Reply (List Record)). andThen k inBytes) of-accepted))
-    where
-      go : (t : Bool) → andThen (if t then refused (why 11) else accepted ts) inBytes ≡ accepted l → c .inputs + c .outputs ≤ l / 8
-      go true e = absurd (apart e)
-      go false e = omega (arith, same-length e, fitting-size mode (checked-sound xs used c checked))
+  reply-counts l is =
+      let e = sym (is ∙ ap (λ (k : Reply (List Record)). andThen k inBytes) of-accepted) in
+      omega (arith, written-length room l ts e .0, fitting-size mode (checked-sound xs used c checked))
 
   -- 11 is never said of a buffer of 25,344 bytes
   pub room-enough : 25344 ≤ room → translateOf mode xs used room ≡ accepted (8 * length ts)
@@ -79,11 +59,7 @@ module _ (mode : Mode) (xs : List ℕ) (used : ℕ) (ys : List ℕ) (l : ℕ) (c
 
   pub reply-table : tableOf (translateBytes mode xs used ys) (l / 8) ≡ made
   unfolding translateOf translateBytes rm3Of
-  reply-table = rw checked (go (ltb (length ys) (8 * length made)) (rw checked at is))
-    where
-      go : (t : Bool) → andThen (if t then refused (why 11) else accepted made) inBytes ≡ accepted l → tableOf (afterReply (if t then refused (why 11) else accepted made) ys) (l / 8) ≡ made
-      go true e = absurd (apart e)
-      go false e = let k : l / 8 ≡ length made = omega (arith, same-length e) in rw k (holding-table made ys)
+  reply-table = rw checked (written-table made ys l (rw checked at is))
 
   -- and so each of them has its block
   pub reply-blocks : Blocks3 mode (c .inputs) (c .gates) (tableOf xs (used / 8)) (tableOf (translateBytes mode xs used ys) (l / 8))

@@ -8,7 +8,8 @@ use Rattle.majority.specs.declared.Counts.{Counts}
 use Rattle.translation.specs.declared.Mode.{Mode}
 use Rattle.tables.specs.Bytes.{recordsOf}
 use Rattle.tables.specs.Claimed.{claimedCheck}
-use Rattle.rm3.specs.Calls.{rm3In, inBytes, afterReply}
+use Rattle.tables.specs.Written.{inBytes, afterReply}
+use Rattle.rm3.specs.Calls.{rm3In}
 
 -- the RM3 table of all bytes of xs, or the refusal
 unfoldable pub claimedRm3 : Mode → List ℕ → Counts → ℕ → Reply (List Record)

@@ -29,8 +29,9 @@ ghost use Rattle.translation.specs.Translate.{again as againOf, after, classOf,
 ghost use Rattle.tables.specs.Bytes.{holding};
 ghost use Rattle.tables.specs.Sound.{Sound, SoundAfter, tableIn, Fresh};
 ghost use Rattle.tables.specs.Said.{saidCheck};
+ghost use Rattle.tables.specs.Written.{inBytes, afterReply};
 ghost use Rattle.rm3.specs.Said.{saidTranslate};
-ghost use Rattle.rm3.specs.Calls.{rm3In, inBytes, afterReply};
+ghost use Rattle.rm3.specs.Calls.{rm3In};
 ghost use Rattle.rm3.specs.inner.Laid.{helperIn, Places, Writes, operandsIn, Gone, Naming, Put, outputsPut};
 
 // The operand of an edge, and how many records the table then has.

@@ -4,7 +4,7 @@ use mathlib.Core.Path.{_≡_, refl, ap, ap₂, _∙_}
 use mathlib.Core.Bool.{Bool, true, false, not}
 use mathlib.Core.List.{List, [], _∷_, _++_}
 use native.Mathlib.Omega.{arith}
-use borrow.Author.Tests.{ltb-false, eqb-true, not-false}
+use borrow.Author.Tests.{ltb-false, le-ltb, eqb-true, eq-eqb, not-false}
 use lib.Dec.{ltb, eqb}
 use lib.ListN.{length, getD, drop, length-append, length-drop}
 use lib.Seq.{drop-cons, getD-append-add, ext-getD}
@@ -73,6 +73,11 @@ accepted-records xs used c e = go (badLength xs used) refl e
     go false q h =
         let w = neither (not (eqb (used % 8) 0)) (ltb (length xs) used) q in
         (eqb-true _ _ (not-false _ (w .0)), ltb-false _ _ (w .1), h)
+
+-- and the other way: at a length that is not refused, the check is that of the records
+pub records-checked : (xs : List ℕ) (used : ℕ) → used % 8 ≡ 0 → used ≤ length xs → checkOf xs used ≡ checkRecords (tableOf xs (used / 8))
+unfolding checkOf
+records-checked xs used whole inside = rw (eq-eqb (used % 8) 0 whole, le-ltb (length xs) used inside)
 
 -- an accepted buffer is the encoding of its table, followed by the rest
 pub accepted-encoded : (xs : List ℕ) → Bytes xs → (used : ℕ) (c : Counts) → checkOf xs used ≡ accepted c → xs ≡ encode (tableOf xs (used / 8)) ++ drop used xs

@@ -90,3 +90,17 @@ module _ {xs : List ℕ} {n : ℕ} (fits : 8 * n ≤ length xs) where
   unfolding holding
   first-holding {want} {ys} t len same bytes s =
       as-encoded ys bytes n (omega (arith, s .long)) ∙ ap₂ _++_ (ap encode (first-table t len same s)) (s .rest ∙ rw (← len))
+
+-- the table t is written to xs from its first record on: those below i are there
+abbrev pub WrittenTo : List Record → List ℕ → ℕ → List ℕ → Type 0
+WrittenTo t xs i ys = HoldsFirst xs (length t) (mixed i (recordAt t) (recordIn xs)) ys
+
+pub write-start : (t : List Record) (xs : List ℕ) → WrittenTo t xs 0 xs
+write-start t xs = first-same xs (length t) _ (λ j h. sym (mixed-high 0 (recordAt t) (recordIn xs) j (omega arith)))
+
+module _ (t : List Record) (xs : List ℕ) (fits : 8 * length t ≤ length xs) (i : ℕ) {ys : List ℕ} where
+  pub write-next : (r : Record) → i < length t → r ≡ recordAt t i → WrittenTo t xs i ys → WrittenTo t xs (i + 1) (putRecord ys i r)
+  write-next r h is s = first-up fits (recordAt t) (recordIn xs) i r h is s
+
+  pub write-end : length t ≤ i → Bytes ys → WrittenTo t xs i ys → ys ≡ holding t xs
+  write-end h bytes s = first-holding fits t refl (λ j l. mixed-low i (recordAt t) (recordIn xs) j (omega arith)) bytes s
