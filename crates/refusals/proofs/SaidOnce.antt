@@ -4,15 +4,18 @@ use mathlib.Core.Path.{_≡_, refl, sym, ap, _∙_}
 use mathlib.Core.List.{[], _∷_}
 use lib.ListN.{getD}
 use Rattle.refusals.specs.declared.Refusal.{Refusal}
-use Rattle.refusals.specs.declared.Refusal.the-variants.{Length, Kind, Count, NotZero, Edge, Assignment, Rule, Field, Form, Gates, Room, Script, Inputs}
+use Rattle.refusals.specs.declared.Refusal.the-variants.{Length, Kind, Count, NotZero, Edge, Assignment, Rule, Field, Form, Gates, Room, Script, Inputs, Function}
 use Rattle.refusals.specs.Why.{Why, whyOf}
 use Rattle.refusals.specs.Reply.{Reply, accepted, refused}
 
--- the refusal of these numbers; where none has them, as 13 and 14, any
+-- the refusal of these numbers; where none has them, as 13, 14 and 16, any
 pub refusalOf : Why → Refusal
 refusalOf w =
     let i = w .place in
-    getD (Length ∷ Kind i ∷ Count ∷ NotZero i ∷ Edge i (w .edge) ∷ Assignment ∷ Rule ∷ Field ∷ Form ∷ Gates ∷ Room ∷ Script ∷ Length ∷ Length ∷ Inputs ∷ []) (w .number - 1) Length
+    getD
+    (Length ∷ Kind i ∷ Count ∷ NotZero i ∷ Edge i (w .edge) ∷ Assignment ∷ Rule ∷ Field ∷ Form ∷ Gates ∷ Room ∷ Script ∷ Length ∷ Length ∷ Inputs ∷ Length ∷ Function ∷ [])
+    (w .number - 1)
+    Length
 
 pub refusal-back : (r : Refusal) → refusalOf (whyOf r) ≡ r
 unfolding refusalOf
@@ -29,6 +32,7 @@ refusal-back Gates = refl
 refusal-back Room = refl
 refusal-back Script = refl
 refusal-back Inputs = refl
+refusal-back Function = refl
 
 pub refusal-once : (a b : Refusal) → whyOf a ≡ whyOf b → a ≡ b
 refusal-once a b e = sym (refusal-back a) ∙ ap refusalOf e ∙ refusal-back b

@@ -1,7 +1,7 @@
 -- The numbers of each refusal (SPEC 3).
 use Prim.Native.Nat.{ℕ}
 use Rattle.refusals.specs.declared.Refusal.{Refusal}
-use Rattle.refusals.specs.declared.Refusal.the-variants.{Length, Kind, Count, NotZero, Edge, Assignment, Rule, Field, Form, Gates, Room, Script, Inputs}
+use Rattle.refusals.specs.declared.Refusal.the-variants.{Length, Kind, Count, NotZero, Edge, Assignment, Rule, Field, Form, Gates, Room, Script, Inputs, Function}
 
 -- why a call is refused: the refusal's number, the record that it carries, and which edge of that record, each 0 where it carries none
 pub record Why : Type 0 where
@@ -35,6 +35,7 @@ refusalNumber Gates = 10
 refusalNumber Room = 11
 refusalNumber Script = 12
 refusalNumber Inputs = 15
+refusalNumber Function = 17
 
 abbrev pub refusalRecord : Refusal → ℕ
 refusalRecord Length = 0
@@ -50,6 +51,7 @@ refusalRecord Gates = 0
 refusalRecord Room = 0
 refusalRecord Script = 0
 refusalRecord Inputs = 0
+refusalRecord Function = 0
 
 abbrev pub refusalEdge : Refusal → ℕ
 refusalEdge Length = 0
@@ -65,6 +67,7 @@ refusalEdge Gates = 0
 refusalEdge Room = 0
 refusalEdge Script = 0
 refusalEdge Inputs = 0
+refusalEdge Function = 0
 
 -- the numbers of a case of the enum
 abbrev pub whyOf : Refusal → Why

@@ -17,6 +17,7 @@ pub enum Refusal {
     Room,
     Script,
     Inputs,
+    Function,
 }
 
 pub fn refusal_number(refusal: Refusal) -> u32
@@ -36,6 +37,7 @@ pub fn refusal_number(refusal: Refusal) -> u32
         Refusal::Room => 11,
         Refusal::Script => 12,
         Refusal::Inputs => 15,
+        Refusal::Function => 17,
     }
 }
 
@@ -57,6 +59,7 @@ pub fn refusal_record(refusal: Refusal) -> usize
         Refusal::Room => 0,
         Refusal::Script => 0,
         Refusal::Inputs => 0,
+        Refusal::Function => 0,
     }
 }
 
@@ -78,5 +81,6 @@ pub fn refusal_edge(refusal: Refusal) -> u32
         Refusal::Room => 0,
         Refusal::Script => 0,
         Refusal::Inputs => 0,
+        Refusal::Function => 0,
     }
 }
