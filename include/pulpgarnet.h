@@ -1,6 +1,6 @@
 /*
- * Pulpgarnet for C and C++: majority tables, rewriting steps and scripts, RM3 tables (docs/SPEC.md). `rt staticlib pulpgarnet`
- * writes the archive, target/staticlib/libpulpgarnet.a, for x86-64.
+ * Pulpgarnet for C and C++: majority tables, rewriting steps and scripts, RM3 tables, and the catalogue of three-input functions
+ * (docs/SPEC.md). `rt staticlib pulpgarnet` writes the archive, target/staticlib/libpulpgarnet.a, for x86-64.
  *
  * A buffer is a pointer and its length in bytes, or of numbers a pointer and their count. The pointer is never null, also at length 0,
  * and has so much behind it.
@@ -12,8 +12,8 @@
  * A record of a table is 8 bytes (docs/SPEC.md, 2.1 and 6.1): its kind, its block, which is 0 in all but gates and operations, and three
  * 16-bit numbers, low byte first. Steps keep the gates' blocks. An operation has that of its gate, and 0 where it was made for an output.
  *
- * A reply begins with `refusal`, 0 for none, else 1 to 12 or 15 as README.md lists them, `record`, the record that refusals 2, 4 and
- * 5 carry, counted from 0, else 0, and `edge`, which of that record's edges refusal 5 means, the first bad one: 1, 2 or 3, else 0.
+ * A reply begins with `refusal`, 0 for none, else 1 to 12, 15 or 17 as README.md lists them, `record`, the record that refusals 2, 4
+ * and 5 carry, counted from 0, else 0, and `edge`, which of that record's edges refusal 5 means, the first bad one: 1, 2 or 3, else 0.
  * Where a call is refused it has written nothing and all other numbers are 0; pulpgarnet_script and pulpgarnet_follow say what they
  * do instead. Bytes that a call is not said to write stay as they were.
  */
@@ -91,6 +91,11 @@ struct pulpgarnet_written pulpgarnet_translate_anew(const uint8_t *table, size_t
 
 /* The depth of the RM3 table, the same of both, which is the highest level among the operands that its outputs name. Writes nothing. Refusals 1 to 5. */
 struct pulpgarnet_deep pulpgarnet_rm3_depth(const uint8_t *table, size_t length, size_t used);
+
+/* Writes the table of the function of three inputs with this number to the first `length` bytes of out, and returns that length: three
+   inputs, at most seven gates, of block 0, and one output. Bit k of the number is the output under the assignment k, k from 0 to 7. 88
+   bytes are enough for any. Refusals 11 and 17, the second first. */
+struct pulpgarnet_written pulpgarnet_catalogue(uint32_t number, uint8_t *out, size_t out_length);
 
 /* The same as pulpgarnet_evaluate and pulpgarnet_report through a reading: all `length` bytes are the table, and its counts are
    those given. Other counts are refused with 3, after 1 and 2 and before 4 and 5. Nothing is trusted: each call checks again.

@@ -5,6 +5,7 @@ mod reply;
 
 ghost use Prim.Native.Nat.{_≤_};
 ghost use lib.ListN.{length};
+use catalogue::Catalogued;
 use input::Claim;
 use input::Fault;
 use input::Part;
@@ -210,6 +211,14 @@ fn report_reading(records: &[u8], c: Counts) -> Outcome {
     reported(reading::reported_as(records, c.inputs, c.gates, c.outputs))
 }
 
+// Operation 25: the length of a function's network, and the buffer that it is written to.
+fn network(number: u32, out: &mut [u8]) -> Outcome {
+    match catalogue::catalogue(number, out) {
+        Catalogued::Length(n) => sent_with(Reply::accepted().number(n), out),
+        Catalogued::Refused(r) => sent_with(Reply::refused(r).number(0), out),
+    }
+}
+
 // The reply of a script, the table as it left it, and then each place that was lent, which the bytes give and take.
 fn run_followed(
     table: &mut [u8],
@@ -302,9 +311,9 @@ fn words_from(table: &[u8], used: usize) -> Outcome {
     }
 }
 
-// What stands before the table in a request: its used length or, of a reading, its counts.
+// What stands before the buffer in a request: a table's used length or a function's number; or, of a reading, its counts.
 enum Lead {
-    Used(usize),
+    Number(u32),
     Counted(Counts),
 }
 
@@ -324,6 +333,14 @@ fn on_table(operation: u8, table: &mut [u8], used: usize) -> Outcome {
     }
 }
 
+// Answers an operation on a buffer that stands behind this number.
+fn on_numbered(operation: u8, buffer: &mut [u8], number: u32) -> Outcome {
+    match operation {
+        25 => network(number, buffer),
+        _ => on_table(operation, buffer, number as usize),
+    }
+}
+
 // Answers an operation on a reading of these records with these counts.
 fn on_reading(operation: u8, records: &[u8], counts: Counts) -> Outcome {
     match operation {
@@ -332,14 +349,14 @@ fn on_reading(operation: u8, records: &[u8], counts: Counts) -> Outcome {
     }
 }
 
-fn on_lent(operation: u8, table: &mut [u8], lead: Lead) -> Outcome {
+fn on_lent(operation: u8, buffer: &mut [u8], lead: Lead) -> Outcome {
     match lead {
-        Lead::Used(used) => on_table(operation, table, used),
-        Lead::Counted(counts) => on_reading(operation, table, counts),
+        Lead::Number(number) => on_numbered(operation, buffer, number),
+        Lead::Counted(counts) => on_reading(operation, buffer, counts),
     }
 }
 
-// Reads the table, and answers.
+// Reads the buffer, and answers.
 fn on_part(operation: u8, buffer: &mut [u8], lead: Lead) -> Outcome {
     match input::read_part(buffer) {
         Part::Bytes(n) => on_lent(operation, &mut buffer[..n], lead),
@@ -347,10 +364,10 @@ fn on_part(operation: u8, buffer: &mut [u8], lead: Lead) -> Outcome {
     }
 }
 
-// Reads the used length, and answers.
-fn with_used(operation: u8, buffer: &mut [u8]) -> Outcome {
+// Reads the number, and answers.
+fn with_number(operation: u8, buffer: &mut [u8]) -> Outcome {
     match input::read_number() {
-        Word::Number(used) => on_part(operation, buffer, Lead::Used(used as usize)),
+        Word::Number(number) => on_part(operation, buffer, Lead::Number(number)),
         Word::Not(fault) => Outcome::Not(fault),
     }
 }
@@ -366,7 +383,7 @@ fn with_counts(operation: u8, buffer: &mut [u8]) -> Outcome {
 // Answers a request that begins with this operation.
 fn on_operation(operation: u8, buffer: &mut [u8]) -> Outcome {
     match operation {
-        1..=6 | 16 | 22..=23 | 28 => with_used(operation, buffer),
+        1..=6 | 16 | 22..=23 | 25 | 28 => with_number(operation, buffer),
         7..=8 => with_counts(operation, buffer),
         _ => Outcome::Unknown(operation),
     }

@@ -21,6 +21,7 @@ ghost use Rattle.rewriting.specs.Follow.{followRun, placesAfter};
 ghost use Rattle.translation.specs.declared.Mode.the-variants.{Anew, Once};
 ghost use Rattle.rm3.specs.Said.{saidTranslate};
 ghost use Rattle.rm3.specs.Calls.{translateOf, translateBytes, depthOf};
+ghost use Rattle.catalogue.specs.Calls.{catalogueOf, catalogueBytes};
 ghost use Rattle.words.specs.Said.{saidPlaced};
 ghost use Rattle.words.specs.Calls.{wordsOf, wordsPlaces, totalsOf, totalsPlaces};
 ghost use Rattle.pulpgarnet.specs.Replies.{checkedReply, valuedReply, reportedReply, placedReply, steppedReply, ranReply, writtenReply, deepReply};
@@ -346,6 +347,28 @@ pub extern "C" fn pulpgarnet_rm3_depth(table: &[u8], used: usize) -> Deep
             at: refusal_record(refusal),
             edge: refusal_edge(refusal),
             depth: 0,
+        },
+    }
+}
+
+// The network of the function with this number, to the beginning of out: its length.
+#[no_mangle]
+pub extern "C" fn pulpgarnet_catalogue(number: u32, out: &mut [u8]) -> Written
+    ensures reply { λ r. ⌜ r ≡ writtenReply (catalogueOf number (length (now (out .entry)))) ⌝ }
+    ensures bytes { λ _. ⌜ now (out .exit) ≡ catalogueBytes number (now (out .entry)) ⌝ }
+{
+    match catalogue::catalogue(number, out) {
+        catalogue::Catalogued::Length(length) => Written {
+            refusal: 0,
+            at: 0,
+            edge: 0,
+            length,
+        },
+        catalogue::Catalogued::Refused(refusal) => Written {
+            refusal: refusal_number(refusal),
+            at: refusal_record(refusal),
+            edge: refusal_edge(refusal),
+            length: 0,
         },
     }
 }
