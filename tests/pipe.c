@@ -193,27 +193,41 @@ static unsigned rm3_depth(size_t length)
     return depth;
 }
 
-/* An RM3 table that was written to out. Its depth is asked for here too: it is that of the bytes written, in both modes. */
-static void put_written(size_t used, struct pulpgarnet_written r)
+/* What a call wrote to out. */
+static void put_written(struct pulpgarnet_written r)
 {
-    struct pulpgarnet_deep d = pulpgarnet_rm3_depth(table.bytes, table.length, used);
-    if (r.refusal == 0 && (d.refusal != 0 || d.depth != rm3_depth(r.length)))
-        end("the depth of the RM3 table is not that of the bytes written");
     put_refusal(r.refusal, r.record, r.edge);
     put_number(r.length);
     put_part(&out);
 }
 
+/* An RM3 table that was written to out. Its depth is asked for here too: it is that of the bytes written, in both modes. */
+static void put_rm3(size_t used, struct pulpgarnet_written r)
+{
+    struct pulpgarnet_deep d = pulpgarnet_rm3_depth(table.bytes, table.length, used);
+    if (r.refusal == 0 && (d.refusal != 0 || d.depth != rm3_depth(r.length)))
+        end("the depth of the RM3 table is not that of the bytes written");
+    put_written(r);
+}
+
 static void translate(size_t used)
 {
     get_part(&out);
-    put_written(used, pulpgarnet_translate(table.bytes, table.length, used, out.bytes, out.length));
+    put_rm3(used, pulpgarnet_translate(table.bytes, table.length, used, out.bytes, out.length));
 }
 
 static void translate_anew(size_t used)
 {
     get_part(&out);
-    put_written(used, pulpgarnet_translate_anew(table.bytes, table.length, used, out.bytes, out.length));
+    put_rm3(used, pulpgarnet_translate_anew(table.bytes, table.length, used, out.bytes, out.length));
+}
+
+/* The catalogue reads no table: its number comes first. */
+static void catalogue(void)
+{
+    uint32_t number = get_number(4);
+    get_part(&out);
+    put_written(pulpgarnet_catalogue(number, out.bytes, out.length));
 }
 
 /* An operation on a table: its used length and the table come first. */
@@ -249,6 +263,8 @@ int main(void)
             on_table(calls[operation]);
         else if (operation == 7 || operation == 8)
             on_reading(operation == 7);
+        else if (operation == 25)
+            catalogue();
         else
             end("there is no such operation");
         fflush(stdout);

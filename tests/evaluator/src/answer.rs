@@ -40,6 +40,17 @@ impl Answer {
         Answer { refusal: progress.refusal, numbers: vec![progress.taken, progress.used], bytes }
     }
 
+    /// The answer of a call that writes these bytes to the buffer, where they fit it.
+    fn written(bytes: Result<Vec<u8>, Refusal>, out: &[u8]) -> Answer {
+        let mut out = out.to_vec();
+        let length = bytes.and_then(|bytes| {
+            let place = out.get_mut(..bytes.len()).ok_or(Refusal::plain(11))?;
+            place.copy_from_slice(&bytes);
+            Ok([bytes.len() as u32])
+        });
+        Answer::of(length, out)
+    }
+
     pub fn bytes(&self) -> Vec<u8> {
         let refusal = self.refusal.unwrap_or(Refusal::plain(0));
         let head = [refusal.number, refusal.record, refusal.edge];
@@ -76,14 +87,7 @@ pub fn answer(request: &Request) -> Answer {
             Answer::of_script(stored.run(&mut buffer), buffer)
         }
         Request::Rm3(mode, table, out) => {
-            let mut out = out.clone();
-            let written = table.network().and_then(|network| {
-                let bytes = translate(&network, *mode).bytes();
-                let place = out.get_mut(..bytes.len()).ok_or(Refusal::plain(11))?;
-                place.copy_from_slice(&bytes);
-                Ok([bytes.len() as u32])
-            });
-            Answer::of(written, out)
+            Answer::written(table.network().map(|network| translate(&network, *mode).bytes()), out)
         }
         Request::ReadingEvaluate(reading, assignment) => {
             let value = reading.network().and_then(|network| evaluate(&network, *assignment));
@@ -101,5 +105,6 @@ pub fn answer(request: &Request) -> Answer {
             bytes.extend(place_bytes(&follow.written(&probes)));
             Answer::of_script(progress, bytes)
         }
+        Request::Catalogue(_, out) => Answer::written(request.network().map(|network| network.bytes()), out),
     }
 }

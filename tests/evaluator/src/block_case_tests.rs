@@ -3,6 +3,7 @@
 use crate::answer::{answer, Answer};
 use crate::block_tests::blocks;
 use crate::cases::Dealer;
+use crate::counts::reads_a_table;
 use crate::request::{operations, Request, Table};
 use crate::rm3::{class, translate, Class, Mode, Operation, Rm3};
 use crate::step::{apply, lay, Step};
@@ -112,6 +113,7 @@ fn every_way_of_blocks_is_dealt() {
     });
     let of_tables = operations()
         .into_iter()
+        .filter(|&operation| reads_a_table(operation))
         .flat_map(|operation| tables.split("; ").map(move |mark| (operation, mark.to_string())));
     let of_steps = shares.chain(within).chain(high).chain(alone).map(|mark| (4, mark));
     let of_helpers = helpers.flat_map(|mark| [(6, mark.clone()), (16, mark)]);

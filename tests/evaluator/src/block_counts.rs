@@ -1,7 +1,7 @@
 //! What a run met of blocks.
 
 use crate::answer::Answer;
-use crate::counts::add;
+use crate::counts::{add, reads_a_table};
 use crate::needs::{made, By};
 use crate::request::{Request, PAST_OPERATIONS};
 use crate::rm3::Mode;
@@ -114,6 +114,9 @@ fn helpers(network: &Network, mode: Mode) -> [bool; HELPERS.len()] {
 impl BlockCounts {
     pub fn note(&mut self, request: &Request, answer: &Answer) {
         let operation = usize::from(request.operation());
+        if !reads_a_table(request.operation()) {
+            return;
+        }
         let Ok(network) = request.network() else {
             if let Some(refusal) = answer.refusal {
                 add(&mut self.faults[operation], faults(&request.records(), refusal));

@@ -1,9 +1,10 @@
 //! What a run met: requests, accepted ones, rules, refusals with their edges, first two edges, stored scripts, RM3 patterns and helpers,
-//! followed gates, words and totals.
+//! followed gates, words and totals, the catalogue's numbers.
 
 use crate::answer::Answer;
 use crate::at_once_counts::AtOnceCounts;
 use crate::block_counts::BlockCounts;
+use crate::catalogue_counts::CatalogueCounts;
 use crate::depth_counts::DepthCounts;
 use crate::follow_counts::FollowCounts;
 use crate::helper_counts::HelperCounts;
@@ -16,7 +17,7 @@ use crate::table::{records, Refusal};
 const RULES: usize = LAST_RULE as usize;
 
 /// One more than the highest refusal's number.
-const PAST_REFUSALS: usize = 16;
+const PAST_REFUSALS: usize = 18;
 
 /// The rules that look at the first two edges of a gate.
 const BY_FIRST_TWO: [u16; 2] = [2, 10];
@@ -43,6 +44,7 @@ pub struct Counts {
     longest: u32,
     depths: DepthCounts,
     blocks: BlockCounts,
+    catalogue: CatalogueCounts,
 }
 
 /// The refusals that an operation can meet.
@@ -54,8 +56,14 @@ pub fn possible(operation: u8) -> &'static [usize] {
         6 | 16 => &[1, 2, 3, 4, 5, 11],
         22 => &[1, 2, 3, 4, 5, 6, 11, 15],
         23 => &[1, 2, 3, 4, 5, 11, 15],
+        25 => &[11, 17],
         _ => &[1, 2, 3, 4, 5],
     }
+}
+
+/// Whether an operation reads a table that the caller lends.
+pub fn reads_a_table(operation: u8) -> bool {
+    possible(operation).contains(&5)
 }
 
 /// The refusals of a step that a rule can meet; 7 is met by a voter under a number that is no rule's.
@@ -100,6 +108,7 @@ impl Counts {
         self.depths.note(request, answer);
         self.blocks.note(request, answer);
         self.helpers.note(request, answer);
+        self.catalogue.note(request);
         match request {
             Request::Step(table, step) => {
                 match answer.refusal {
@@ -157,6 +166,12 @@ impl Counts {
             }
             let never = possible(operation).iter().filter(|&&number| self.refusals[place][number] == 0);
             lines.extend(never.map(|number| format!("never met: refusal {number} of operation {operation}")));
+            if operation == 25 {
+                lines.extend(self.catalogue.never_met());
+            }
+            if !reads_a_table(operation) {
+                continue;
+            }
             let edges = (1..=3).filter(|&edge| self.edges[place][edge] == 0);
             lines.extend(edges.map(|edge| format!("never met: refusal 5 with edge {edge} of operation {operation}")));
             let rules = (1..=RULES).filter(|&rule| matches!(operation, 4 | 5 | 28) && self.rules[place][rule] == 0);
@@ -217,8 +232,11 @@ impl Counts {
             let met: usize = self.refusals.iter().map(|refusals| refusals[number]).sum();
             lines.push(format!("refusal {number}: {met} times"));
         }
-        let edges = [1, 2, 3].map(|edge| self.edges.iter().map(|edges| edges[edge]).sum::<usize>());
-        lines.push(format!("bad edge: first {} times, second {}, third {}", edges[0], edges[1], edges[2]));
+        let of_tables = asked.iter().any(|&operation| reads_a_table(operation));
+        if of_tables {
+            let edges = [1, 2, 3].map(|edge| self.edges.iter().map(|edges| edges[edge]).sum::<usize>());
+            lines.push(format!("bad edge: first {} times, second {}, third {}", edges[0], edges[1], edges[2]));
+        }
         if asked.contains(&5) || asked.contains(&28) {
             lines.push(format!("longest script: {} steps taken", self.longest));
         }
@@ -237,7 +255,12 @@ impl Counts {
             lines.extend(self.helpers.report(operation));
         }
         lines.extend(self.depths.report(&asked));
-        lines.extend(self.blocks.report(&asked));
+        if of_tables {
+            lines.extend(self.blocks.report(&asked));
+        }
+        if asked.contains(&25) {
+            lines.extend(self.catalogue.report());
+        }
         lines.join("\n")
     }
 }

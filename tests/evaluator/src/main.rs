@@ -16,6 +16,10 @@ mod block_counts;
 #[cfg(test)]
 mod block_tests;
 mod cases;
+mod catalogue;
+mod catalogue_counts;
+#[cfg(test)]
+mod catalogue_tests;
 mod counts;
 mod depth_counts;
 mod depth_kept;
@@ -76,11 +80,11 @@ gate to which a place of operation 28 leads has its first value, and that operat
 In 3000 requests or more it must meet tables that have gates and depth 0.
   --seed S     the run's seed (default 1); the same seed, count and operations give the same run
   --count N    how many requests (default 4000)
-  --ops LIST   the operations to ask, 1 to 8, 16, 22, 23 and 28 (default all)
+  --ops LIST   the operations to ask, 1 to 8, 16, 22, 23, 25 and 28 (default all)
   --save FILE  where to write the bytes of the request that met a difference, for PROGRAM's standard input
 
-How the count is spread: of 38 requests operations 1 to 8 get 3, 2, 1, 8, 4, 3, 2 and 2, operations 16, 22 and 23 get 3 each and
-operation 28 gets 4 (those listed keep their shares). Each operation deals its kinds of cases from a shuffled deck, so that every kind comes once before one
+How the count is spread: of 41 requests operations 1 to 8 get 3, 2, 1, 8, 4, 3, 2 and 2, operations 16, 22, 23 and 25 get 3 each
+and operation 28 gets 4 (those listed keep their shares). Each operation deals its kinds of cases from a shuffled deck, so that every kind comes once before one
 comes again beyond its weight, and a kind goes through its variants in turn. Every 100th request of an operation is a
 rare one: a part of 65,536 bytes, or for operations 5 and 28 at times a script of 5,000 to 8,192 steps, for 22, 23 and
 28 8,192 places, and for 23 a table of 16 inputs and hundreds of gates.
@@ -94,6 +98,11 @@ rules with a high byte; or where operation 6 or 16 never met one of the 27 RM3 p
 the ways (in a plain middle, in another inverted edge, in another gate, within one, by an output, in another block), or an out buffer
 exactly full or one byte short in the other mode; or where operation 22 or 23 never met one of the numbers of inputs, 0 to 18, one of the
 sorts of first assignments and of places, refusals 15, 6 and 11 at once, or outputs that would be true past 2^n.
+Which network operation 25 gives for a number is not said. It must be a table of three inputs and one output that computes the number, of
+block 0, with every gate reached and as few gates as a search of its own finds, and the same in every buffer that holds it. A run fails where
+operation 25 never met such a network of each size in a buffer exactly full, longer and one byte short, or one of the numbers that
+are no function's; with 1200 requests of operation 25 or more, where it did not meet every number in each of these buffers and
+every length of out from 0 to 96.
 The exit status is 0 where all replies are as expected, 1 where not, and 2 for bad usage.
 ";
 
@@ -138,7 +147,7 @@ fn operations(list: &str) -> Result<Vec<u8>, String> {
     let known = request::operations();
     let numbers = list.split(',').map(|word| word.parse().ok().filter(|number| known.contains(number)));
     let numbers: Option<Vec<u8>> = numbers.collect();
-    let mut numbers = numbers.ok_or(format!("--ops: {list} is no list of operations 1 to 8, 16, 22, 23 and 28"))?;
+    let mut numbers = numbers.ok_or(format!("--ops: {list} is no list of operations 1 to 8, 16, 22, 23, 25 and 28"))?;
     numbers.sort_unstable();
     numbers.dedup();
     Ok(numbers)

@@ -1,6 +1,7 @@
 //! A request as it goes through the pipe.
 
 use crate::at_once::{Asked, AtOnce};
+use crate::catalogue;
 use crate::follow::Follow;
 use crate::reading::Reading;
 use crate::rm3::Mode;
@@ -31,6 +32,8 @@ impl Table {
 enum Subject<'a> {
     Table(&'a Table),
     Reading(&'a Reading),
+    /// The number of a function of three inputs.
+    Function(u32),
 }
 
 #[derive(Clone, Debug)]
@@ -47,10 +50,11 @@ pub enum Request {
     ReadingReport(Reading),
     AtOnce(AtOnce),
     Follow(Follow),
+    Catalogue(u32, Vec<u8>),
 }
 
 /// The operations and their calls.
-const CALLS: [(u8, &str); 12] = [
+const CALLS: [(u8, &str); 13] = [
     (1, "check"),
     (2, "evaluate"),
     (3, "report"),
@@ -62,6 +66,7 @@ const CALLS: [(u8, &str); 12] = [
     (16, "RM3 table"),
     (22, "words"),
     (23, "totals"),
+    (25, "the catalogue's network"),
     (28, "follow"),
 ];
 
@@ -107,6 +112,7 @@ impl Request {
             Request::Rm3(Mode::Once, ..) => 16,
             Request::AtOnce(AtOnce { asked: Asked::Words(_), .. }) => 22,
             Request::AtOnce(AtOnce { asked: Asked::Totals, .. }) => 23,
+            Request::Catalogue(..) => 25,
             Request::Follow(_) => 28,
         }
     }
@@ -123,6 +129,7 @@ impl Request {
             | Request::Follow(Follow { table, .. })
             | Request::Rm3(_, table, _) => Subject::Table(table),
             Request::ReadingEvaluate(reading, _) | Request::ReadingReport(reading) => Subject::Reading(reading),
+            Request::Catalogue(number, _) => Subject::Function(*number),
         }
     }
 
@@ -131,6 +138,7 @@ impl Request {
         match self.subject() {
             Subject::Table(table) => table.network(),
             Subject::Reading(reading) => reading.network(),
+            Subject::Function(number) => catalogue::network(number).cloned(),
         }
     }
 
@@ -139,6 +147,7 @@ impl Request {
         match self.subject() {
             Subject::Table(table) => table.records(),
             Subject::Reading(reading) => records(&reading.records),
+            Subject::Function(_) => vec![],
         }
     }
 
@@ -156,6 +165,7 @@ impl Request {
                 parts.extend(counts.map(|(name, count)| number(name, count)));
                 parts.extend(lent("records", &reading.records));
             }
+            Subject::Function(function) => parts.push(number("number", function)),
         }
         match self {
             Request::Evaluate(_, assignment) | Request::ReadingEvaluate(_, assignment) => {
@@ -179,7 +189,7 @@ impl Request {
                 parts.push(number("count", places.len() as u32));
                 parts.push(("places", place_bytes(places)));
             }
-            Request::Rm3(_, _, out) => parts.extend(lent("out", out)),
+            Request::Rm3(_, _, out) | Request::Catalogue(_, out) => parts.extend(lent("out", out)),
             Request::Check(_) | Request::Report(_) | Request::ReadingReport(_) => {}
         }
         parts

@@ -2,6 +2,7 @@
 
 use crate::answer::answer;
 use crate::cases::{Case, Dealer};
+use crate::catalogue::Given;
 use crate::counts::Counts;
 use crate::depth_kept::depth_fault;
 use crate::difference::{describe, differences, rm3_faults};
@@ -32,12 +33,17 @@ pub type Ask<'a> = &'a mut dyn FnMut(&Request, usize) -> Result<Vec<u8>, String>
 pub fn run(settings: &Settings, counts: &mut Counts, ask: Ask) -> Result<(), Box<Difference>> {
     let mut dealer = Dealer::new(settings.seed, &settings.operations);
     let mut random = Random::new(!settings.seed);
+    let mut given = Given::default();
     for number in 1..=settings.count {
         let Case { kind, request } = dealer.deal();
-        let expected = answer(&request);
-        let mut lines = match ask(&request, expected.bytes().len()) {
-            Ok(reply) => differences(&request, &expected, &reply),
-            Err(trouble) => vec![trouble],
+        let own = answer(&request);
+        let (expected, mut lines) = match ask(&request, own.bytes().len()) {
+            Ok(reply) => {
+                let (expected, fault) = given.expected(&request, own, &reply);
+                let lines = differences(&request, &expected, &reply).into_iter().chain(fault).collect();
+                (expected, lines)
+            }
+            Err(trouble) => (own, vec![trouble]),
         };
         if lines.is_empty() {
             lines.extend(rm3_faults(&request, &expected, &mut random));

@@ -3,6 +3,7 @@
 mod assignments;
 mod at_once;
 mod blocks;
+mod catalogue;
 mod damage;
 mod deck;
 mod depths;
@@ -20,6 +21,7 @@ mod tables;
 mod translations;
 mod voters;
 
+pub use catalogue::LENGTHS;
 pub use deck::{Case, Dealer};
 
 use crate::at_once::Asked;
@@ -30,8 +32,11 @@ use crate::step::Step;
 use crate::table::{record_bytes, Network};
 use deck::{kind, Kind};
 
-/// An operation's own kinds, and every kind of table with any other parts around it.
+/// An operation's own kinds, and every kind of table with any other parts around it; the catalogue reads no table.
 fn kinds(operation: u8) -> Vec<Kind> {
+    if operation == 25 {
+        return catalogue::kinds();
+    }
     let mut kinds = match operation {
         2 => assignments::kinds(Request::Evaluate),
         4 => {
