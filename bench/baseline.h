@@ -22,5 +22,6 @@ struct pulpgarnet_written plain_translate(const uint8_t *table, size_t length, s
 struct pulpgarnet_written plain_translate_anew(const uint8_t *table, size_t length, size_t used,
                                                uint8_t *out, size_t out_length);
 struct pulpgarnet_deep plain_rm3_depth(const uint8_t *table, size_t length, size_t used);
+struct pulpgarnet_written plain_catalogue(uint32_t number, uint8_t *out, size_t out_length);
 
 #endif

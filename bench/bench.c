@@ -8,6 +8,7 @@
  * A step is asked of the gate in the middle, which has the rule's form; where a rule inserts, the largest table has 1,022 gates.
  * A voter is asked of the gate at a third and all but doubles the gates, so its largest table has 512.
  * Words, totals and the single evaluations beside them are asked of tables of 16 inputs.
+ * The catalogue reads no table: at 16, 128, 256, 512 and 1,024 gates it is asked for networks of 0, 0, 1, 2 and 4 gates.
  */
 #include <stdio.h>
 #include <stdlib.h>
@@ -44,17 +45,20 @@ struct side {
     struct pulpgarnet_written (*translate)(const uint8_t *, size_t, size_t, uint8_t *, size_t);
     struct pulpgarnet_written (*translate_anew)(const uint8_t *, size_t, size_t, uint8_t *, size_t);
     struct pulpgarnet_deep (*rm3_depth)(const uint8_t *, size_t, size_t);
+    struct pulpgarnet_written (*catalogue)(uint32_t, uint8_t *, size_t);
 };
 
 static const struct side SIDES[2] = {
     { pulpgarnet_check, pulpgarnet_evaluate, pulpgarnet_report, pulpgarnet_words, pulpgarnet_totals, pulpgarnet_step,
-      pulpgarnet_script, pulpgarnet_follow, pulpgarnet_translate, pulpgarnet_translate_anew, pulpgarnet_rm3_depth },
+      pulpgarnet_script, pulpgarnet_follow, pulpgarnet_translate, pulpgarnet_translate_anew, pulpgarnet_rm3_depth,
+      pulpgarnet_catalogue },
     { plain_check, plain_evaluate, plain_report, plain_words, plain_totals, plain_step, plain_script, plain_follow,
-      plain_translate, plain_translate_anew, plain_rm3_depth },
+      plain_translate, plain_translate_anew, plain_rm3_depth, plain_catalogue },
 };
 
 enum call {
-    NOTHING, CHECK, EVALUATE, REPORT, WORDS, TOTALS, EVERY, STEP, SCRIPT, FOLLOW, TRANSLATE, TRANSLATE_ANEW, RM3_DEPTH
+    NOTHING, CHECK, EVALUATE, REPORT, WORDS, TOTALS, EVERY, STEP, SCRIPT, FOLLOW, TRANSLATE, TRANSLATE_ANEW, RM3_DEPTH,
+    CATALOGUE
 };
 
 struct row { const char *name; enum call call; uint16_t rule; };
@@ -81,6 +85,7 @@ static const struct row ROWS[] = {
     { "translate", TRANSLATE, 0 },
     { "translate anew", TRANSLATE_ANEW, 0 },
     { "RM3 depth", RM3_DEPTH, 0 },
+    { "catalogue", CATALOGUE, 0 },
 };
 
 enum { COUNT = sizeof ROWS / sizeof ROWS[0] };
@@ -95,6 +100,8 @@ struct input {
     uint32_t assignment, first;
     uint16_t rule, gate, a, b;
     uint8_t steps[RECORD * STEPS];
+    uint32_t number;
+    size_t room;
 };
 
 struct reply { uint64_t numbers[6]; };
@@ -180,6 +187,11 @@ __attribute__((noinline)) static void ask(const struct side *side, const struct 
     case RM3_DEPTH: {
         struct pulpgarnet_deep r = side->rm3_depth(table, in->length, in->used);
         n[0] = r.refusal, n[1] = r.record, n[2] = r.edge, n[3] = r.depth;
+        break;
+    }
+    case CATALOGUE: {
+        struct pulpgarnet_written r = side->catalogue(in->number, out, in->room);
+        n[0] = r.refusal, n[1] = r.record, n[2] = r.edge, n[3] = r.length;
         break;
     }
     }
@@ -296,6 +308,9 @@ static unsigned most_gates(unsigned rule)
 
 static int is_at_once(enum call call) { return call == WORDS || call == TOTALS || call == EVERY; }
 
+/* A function whose network has so many gates: input 3, the majority, all three inputs, their parity, and just two of them. */
+static const uint32_t FUNCTIONS[5] = { 240, 232, 128, 150, 104 };
+
 static void make_input(struct input *in, const struct row *row, unsigned gates)
 {
     memset(in, 0, sizeof *in);
@@ -330,6 +345,12 @@ static void make_input(struct input *in, const struct row *row, unsigned gates)
     }
     if (row->call == SCRIPT || row->call == FOLLOW)
         choose_steps(in);
+    if (row->call == CATALOGUE) {
+        in->gates = gates / 256;
+        in->number = FUNCTIONS[in->gates];
+        in->room = sizeof out;
+        in->used = in->length = RECORD; /* of a table that is not read, so that the clock has as many calls as for a short one */
+    }
     snprintf(in->label, sizeof in->label, "%-22s %6u", row->name, in->gates);
 }
 
@@ -364,11 +385,35 @@ static void compare_refusal(const struct input *in, uint64_t refusal, uint64_t r
     }
 }
 
+/* Both sides write the same network for every number, also where it fills the buffer, and refuse alike where that is shorter and where
+   there is no such function. */
+static void compare_catalogue(const struct input *in)
+{
+    static const uint32_t BEYOND[] = { 256, 65535, 65536, 4294967295 };
+    static struct input other;
+    struct reply reply;
+    memcpy(&other, in, sizeof other);
+    for (other.number = 0; other.number < 256; other.number++) {
+        other.room = sizeof out;
+        compare_refusal(&other, 0, 0, 0);
+        ask(&SIDES[1], &other, other.table, &reply);
+        for (other.room = reply.numbers[3] - 1; other.room <= reply.numbers[3] + 1; other.room++)
+            compare_refusal(&other, other.room < reply.numbers[3] ? 11 : 0, 0, 0);
+    }
+    for (unsigned k = 0; k < sizeof BEYOND / sizeof BEYOND[0]; k++)
+        for (other.number = BEYOND[k], other.room = 0; other.room < 96; other.room++)
+            compare_refusal(&other, 17, 0, 0);
+}
+
 /* Both sides accept, and answer the same, also where every gate is of block 255. They refuse alike where then the first output has a
    block too, and where the last gate's third edge names the gate itself, then its second too, then all three. */
 static void compare(const struct input *in)
 {
     static struct input other;
+    if (in->call == CATALOGUE) {
+        compare_catalogue(in);
+        return;
+    }
     unsigned node = in->inputs + in->gates, own = 2 * node;
     unsigned e1 = edge_of(in->table, node, 1), e2 = edge_of(in->table, node, 2);
     compare_refusal(in, 0, 0, 0);
