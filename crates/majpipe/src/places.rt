@@ -29,7 +29,7 @@ fn read_numbers(bytes: &mut [u8; MOST_BYTES], width: u32, count: u32) -> Part
 }
 
 // A count, and then so many numbers of this many bytes each, which go to the start of the bytes.
-pub fn read_places(bytes: &mut [u8; MOST_BYTES], width: u32) -> Part
+pub(crate) fn read_places(bytes: &mut [u8; MOST_BYTES], width: u32) -> Part
     requires { ⌜ width ≤ 8 ⌝ }
     ensures { λ r. ⌜ Few r ⌝ }
 {
@@ -85,7 +85,7 @@ fn long(number: u16) -> u64 {
 }
 
 // Sets the places from the bytes of the request.
-pub fn take_short(places: &mut [u16], bytes: &[u8; MOST_BYTES])
+pub(crate) fn take_short(places: &mut [u16], bytes: &[u8; MOST_BYTES])
     requires { ⌜ length (now places) ≤ 8192 ⌝ }
 {
     let mut i = 0;
@@ -95,7 +95,7 @@ pub fn take_short(places: &mut [u16], bytes: &[u8; MOST_BYTES])
     }
 }
 
-pub fn take_long(places: &mut [u64], bytes: &[u8; MOST_BYTES])
+pub(crate) fn take_long(places: &mut [u64], bytes: &[u8; MOST_BYTES])
     requires { ⌜ length (now places) ≤ 8192 ⌝ }
 {
     let mut i = 0;
@@ -106,7 +106,7 @@ pub fn take_long(places: &mut [u64], bytes: &[u8; MOST_BYTES])
 }
 
 // Puts the places into the bytes of the reply.
-pub fn give_short(bytes: &mut [u8; MOST_BYTES], places: &[u16])
+pub(crate) fn give_short(bytes: &mut [u8; MOST_BYTES], places: &[u16])
     requires { ⌜ length (now places) ≤ 8192 ⌝ }
 {
     let mut i = 0;
@@ -116,7 +116,7 @@ pub fn give_short(bytes: &mut [u8; MOST_BYTES], places: &[u16])
     }
 }
 
-pub fn give_long(bytes: &mut [u8; MOST_BYTES], places: &[u64])
+pub(crate) fn give_long(bytes: &mut [u8; MOST_BYTES], places: &[u64])
     requires { ⌜ length (now places) ≤ 8192 ⌝ }
 {
     let mut i = 0;
