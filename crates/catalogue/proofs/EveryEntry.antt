@@ -8,7 +8,7 @@ use borrow.Author.Tests.{eqb-true, leb-true}
 use lib.Dec.{eqb, leb}
 use lib.ListN.{length, get_or}
 use Rattle.refusals.specs.Reply.{Reply, accepted, refused}
-use Rattle.majority.specs.If.{if◌then◌else◌}
+use Rattle.std.specs.Prelude.{if◌then◌else◌}
 use Rattle.majority.specs.Node.{edge_worth, record_worth, worths, worth}
 use Rattle.majority.specs.Value.{bit, majority_of, output_value, number, output_number}
 use Rattle.majority.specs.Seek.{first_from}

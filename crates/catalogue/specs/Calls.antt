@@ -1,8 +1,7 @@
 -- What the call replies, and the bytes that it leaves (SPEC 12).
-use Rattle.std.specs.Prelude.{ℕ, List, length, ltb}
+use Rattle.std.specs.Prelude.{ℕ, List, length, ltb, if◌then◌else◌}
 use Rattle.refusals.specs.Why.{why}
 use Rattle.refusals.specs.Reply.{Reply, refused, and_then}
-use Rattle.majority.specs.If.{if◌then◌else◌}
 use Rattle.majority.specs.declared.Record.{Record}
 use Rattle.tables.specs.Written.{in_room, in_bytes, after_reply}
 use Rattle.catalogue.specs.Networks.{network}

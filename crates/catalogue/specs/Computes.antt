@@ -1,7 +1,6 @@
 -- What the catalogue promises of a table (SPEC 12): it computes the function of its number, with at most seven gates, each of which an output reaches.
-use Rattle.std.specs.Prelude.{ℕ, ◌+◌, ◌*◌, ◌/◌, ◌≤◌, ◌<◌, ◌≡◌, true, List}
+use Rattle.std.specs.Prelude.{ℕ, ◌+◌, ◌*◌, ◌/◌, ◌≤◌, ◌<◌, ◌≡◌, true, List, if◌then◌else◌}
 use Rattle.refusals.specs.Reply.{accepted}
-use Rattle.majority.specs.If.{if◌then◌else◌}
 use Rattle.majority.specs.Table.{WellFormed}
 use Rattle.majority.specs.Value.{bit, output_number}
 use Rattle.majority.specs.Check.{counts, check_records}

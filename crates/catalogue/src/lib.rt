@@ -1,4 +1,6 @@
 // The catalogue of three-input functions: for the number of each a table that computes it.
+#![tactic(auto)]
+
 mod entries;
 
 ghost use Rattle.std.specs.Prelude.{◌≡◌, ◌*◌, ◌≤◌, ◌<◌, length};
@@ -19,7 +21,7 @@ pub const HIGHEST: u32 = 255;
 // The most bytes that a table of the catalogue has: three inputs, seven gates and an output.
 pub const MOST_BYTES: usize = 88;
 
-#[derive(Drop)]
+#[derive(Clone, Copy)]
 pub enum Catalogued {
     Length(usize),
     Refused(Refusal),

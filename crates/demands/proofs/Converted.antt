@@ -8,7 +8,7 @@ use lib.Dec.{eqb}
 use lib.ListN.{length}
 use Rattle.refusals.specs.Why.{Why}
 use Rattle.refusals.specs.Reply.{Reply, accepted, refused}
-use Rattle.majority.specs.If.{if◌then◌else◌}
+use Rattle.std.specs.Prelude.{if◌then◌else◌}
 use Rattle.majority.specs.declared.Counts.{Counts}
 use Rattle.rules.specs.declared.Step.{Step}
 use Rattle.tables.specs.Field.{put_field}

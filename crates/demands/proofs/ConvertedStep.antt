@@ -9,7 +9,7 @@ use lib.Dec.{eqb}
 use lib.ListN.{length}
 use Rattle.refusals.specs.Why.{Why}
 use Rattle.refusals.specs.Reply.{Reply, accepted, refused, and_then}
-use Rattle.majority.specs.If.{if◌then◌else◌}
+use Rattle.std.specs.Prelude.{if◌then◌else◌}
 use Rattle.majority.specs.Edge.{flip}
 use Rattle.majority.specs.Edit.{node_record}
 use Rattle.majority.specs.declared.Record.{Record}

@@ -7,7 +7,7 @@ use native.Mathlib.Omega.{arith}
 use lib.Dec.{eqb}
 use lib.ListN.{length, take}
 use Rattle.refusals.specs.Why.{why}
-use Rattle.majority.specs.If.{if◌then◌else◌}
+use Rattle.std.specs.Prelude.{if◌then◌else◌}
 use Rattle.refusals.specs.Reply.{Reply, accepted, refused}
 use Rattle.majority.specs.Check.{counts}
 use Rattle.rules.specs.Step.{deepens_by, voters_by}

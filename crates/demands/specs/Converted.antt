@@ -1,8 +1,7 @@
 -- Stored scripts (SPEC 5.8): rule 2 once took opposite edges too, and no rule had the number 10. A script of that time is converted, and gives what it gave.
-use Rattle.std.specs.Prelude.{ℕ, zero, suc, ◌+◌, ◌*◌, ◌/◌, ◌%◌, ◌<◌, ◌≡◌, Bool, not, ◌&&◌, ◌||◌, List, ltb, eqb, length}
+use Rattle.std.specs.Prelude.{ℕ, zero, suc, ◌+◌, ◌*◌, ◌/◌, ◌%◌, ◌<◌, ◌≡◌, Bool, not, ◌&&◌, ◌||◌, List, ltb, eqb, length, if◌then◌else◌}
 use Rattle.refusals.specs.Why.{why}
 use Rattle.refusals.specs.Reply.{Reply, accepted, refused, and_then}
-use Rattle.majority.specs.If.{if◌then◌else◌}
 use Rattle.majority.specs.Edge.{flip}
 use Rattle.majority.specs.Edit.{node_record, redirect_all}
 use Rattle.majority.specs.declared.Record.{Record}

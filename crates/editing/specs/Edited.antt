@@ -1,6 +1,5 @@
 -- What edits of records leave in a buffer (SPEC 5.2).
-use Rattle.std.specs.Prelude.{ℕ, ◌+◌, ◌-◌, ◌/◌, ◌%◌, Bool, ◌||◌, List, ◌++◌, map, length, take, drop, ◌==◌, nat_lt}
-use Rattle.majority.specs.If.{if◌then◌else◌}
+use Rattle.std.specs.Prelude.{ℕ, ◌+◌, ◌-◌, ◌/◌, ◌%◌, Bool, ◌||◌, List, ◌++◌, map, length, take, drop, ◌==◌, nat_lt, if◌then◌else◌}
 use Rattle.majority.specs.Edge.{node_of, redirect, raise}
 use Rattle.majority.specs.Table.{blank}
 use Rattle.majority.specs.Edit.{edges}

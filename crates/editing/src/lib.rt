@@ -1,4 +1,6 @@
 // Moving and changing the records of a lent slice. Each function is total: where the slice has no room for what is asked, nothing changes.
+#![tactic(auto)]
+
 ghost use Rattle.std.specs.Prelude.{◌≡◌, ◌+◌, ◌*◌, ◌≤◌, [], ◌∷◌, length};
 ghost use Rattle.majority.specs.Edge.{redirect as redirect_edge};
 ghost use Rattle.majority.specs.Table.{record_at};

@@ -1,4 +1,6 @@
 // The listing of an RM3 table: a line with its counts and depth, one an operation and one an output.
+#![tactic(auto)]
+
 ghost use Rattle.std.specs.Prelude.{◌≤◌};
 
 use libc::STDOUT_FILENO;

@@ -1,4 +1,6 @@
 // Writes the bytes of the table of the catalogue that computes the function of three inputs with the number that its argument gives.
+#![tactic(auto)]
+
 use catalogue::Catalogued;
 use libc::STDOUT_FILENO;
 use program::{Called, End, Program};

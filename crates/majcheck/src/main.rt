@@ -1,4 +1,6 @@
 // Checks the table on standard input: prints its counts, or the refusal that it meets.
+#![tactic(auto)]
+
 use libc::STDOUT_FILENO;
 use majority::Counts;
 use program::{Called, End, Input, Program};

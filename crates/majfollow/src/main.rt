@@ -1,5 +1,7 @@
 // Runs the script in the file that its argument names on the table on standard input, and says where each gate of that table stands then: a line a
 // gate on standard output, and what the script replied on standard error.
+#![tactic(auto)]
+
 ghost use Rattle.std.specs.Prelude.{◌≤◌};
 
 use libc::{STDERR_FILENO, STDOUT_FILENO};

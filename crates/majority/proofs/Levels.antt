@@ -6,7 +6,7 @@ use mathlib.Core.Logic.{⊎_elim}
 use mathlib.Core.List.{List}
 use native.Mathlib.Nat.{eq-or-lt_of_le}
 use native.Mathlib.Omega.{arith}
-use Rattle.majority.specs.If.{if◌then◌else◌}
+use Rattle.std.specs.Prelude.{if◌then◌else◌}
 use Rattle.majority.specs.Edge.{node_of, is_inverted}
 use Rattle.majority.specs.Table.{Below, WellFormed}
 use Rattle.majority.specs.Node.{by_kind, edge_worth, record_worth}

@@ -3,7 +3,7 @@ use Prim.Native.Nat.{ℕ}
 use mathlib.Core.Path.{◌≡◌, refl, sym}
 use mathlib.Core.Bool.{Bool, true, false, true≢false, ◌||◌, ◌&&◌}
 use native.Mathlib.Omega.{arith}
-use Rattle.majority.specs.If.{if◌then◌else◌}
+use Rattle.std.specs.Prelude.{if◌then◌else◌}
 use Rattle.refusals.specs.Why.{Why}
 use Rattle.refusals.specs.Reply.{Reply, accepted, refused, and_then}
 

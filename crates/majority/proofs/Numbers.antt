@@ -8,7 +8,7 @@ use lib.Pow.{pow_pos, pow-add}
 use native.Mathlib.Numerals.{add-one}
 use native.Mathlib.Decide.{dec_lt}
 use native.Mathlib.Omega.{arith}
-use Rattle.majority.specs.If.{if◌then◌else◌}
+use Rattle.std.specs.Prelude.{if◌then◌else◌}
 use Rattle.majority.specs.Value.{bit, number}
 
 pub number_low : (f : ℕ → Bool) (k : ℕ) → number f k < 2 ^ k

@@ -1,8 +1,7 @@
 -- Refusals 2 to 5 over the records of a table, in their order (SPEC 3).
-use Rattle.std.specs.Prelude.{ℕ, zero, suc, ◌+◌, Bool, false, not, ◌||◌, List, [], ◌∷◌, length, ltb, eqb}
+use Rattle.std.specs.Prelude.{ℕ, zero, suc, ◌+◌, Bool, false, not, ◌||◌, List, [], ◌∷◌, length, ltb, eqb, if◌then◌else◌}
 use Rattle.refusals.specs.Why.{Why, why, why_at, why_edge}
 use Rattle.refusals.specs.Reply.{Reply, accepted, refused, and_then}
-use Rattle.majority.specs.If.{if◌then◌else◌}
 use Rattle.majority.specs.Edge.{node_of}
 use Rattle.majority.specs.Seek.{first}
 use Rattle.majority.specs.Table.{record_at}

@@ -1,6 +1,5 @@
 -- Edges (SPEC 2.2). An edge is twice a node number, plus 1 where it is inverted.
-use Rattle.std.specs.Prelude.{ℕ, ◌+◌, ◌-◌, ◌*◌, ◌/◌, ◌%◌, Bool, ltb, eqb}
-use Rattle.majority.specs.If.{if◌then◌else◌}
+use Rattle.std.specs.Prelude.{ℕ, ◌+◌, ◌-◌, ◌*◌, ◌/◌, ◌%◌, Bool, ltb, eqb, if◌then◌else◌}
 
 -- the node that an edge names
 abbrev pub node_of : ℕ → ℕ

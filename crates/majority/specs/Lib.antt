@@ -1,4 +1,3 @@
-pub mod If  -- a choice by a test
 pub mod Edge  -- edges (SPEC 2.2)
 pub mod Table  -- the table as a list of records, and what a well-formed one is (SPEC 2.1)
 pub mod Node  -- what a node is worth, for any meaning of worth

@@ -1,7 +1,6 @@
 -- What a node is worth (SPEC 2.3 and 2.4). Values and levels are worked out alike, from node 0 up, each node from the nodes that it reads.
 -- An output's record is worth what its edge is worth.
-use Rattle.std.specs.Prelude.{ℕ, zero, suc, List, [], ◌∷◌, ◌++◌, get_or}
-use Rattle.majority.specs.If.{if◌then◌else◌}
+use Rattle.std.specs.Prelude.{ℕ, zero, suc, List, [], ◌∷◌, ◌++◌, get_or, if◌then◌else◌}
 use Rattle.majority.specs.Edge.{node_of, is_inverted}
 use Rattle.majority.specs.declared.Record.{Record}
 

@@ -1,6 +1,5 @@
 -- The first number at which a test holds (SPEC 3: the first bad record).
-use Rattle.std.specs.Prelude.{ℕ, zero, suc, Bool}
-use Rattle.majority.specs.If.{if◌then◌else◌}
+use Rattle.std.specs.Prelude.{ℕ, zero, suc, Bool, if◌then◌else◌}
 
 -- of the k numbers from i on, the first at which p holds; i + k where it holds at none
 unfoldable pub first_from : (ℕ → Bool) → ℕ → ℕ → ℕ

@@ -1,6 +1,5 @@
 -- Values (SPEC 2.3): of a gate, of every node under an assignment, and of the outputs as a number.
-use Rattle.std.specs.Prelude.{ℕ, zero, suc, ◌+◌, ◌-◌, ◌/◌, ◌%◌, ◌^◌, Bool, false, not, ◌&&◌, ◌||◌, List, eqb}
-use Rattle.majority.specs.If.{if◌then◌else◌}
+use Rattle.std.specs.Prelude.{ℕ, zero, suc, ◌+◌, ◌-◌, ◌/◌, ◌%◌, ◌^◌, Bool, false, not, ◌&&◌, ◌||◌, List, eqb, if◌then◌else◌}
 use Rattle.majority.specs.Table.{record_at}
 use Rattle.majority.specs.Node.{Meaning, edge_worth, worth}
 use Rattle.majority.specs.declared.Record.{Record}

@@ -1,10 +1,12 @@
 // What a table means: its record and its edges, by value. The definitions that the contracts cite are in specs/.
+#![tactic(auto)]
+
 ghost use Rattle.std.specs.Prelude.{◌≡◌, max};
 ghost use Rattle.majority.specs.Edge.{node_of, is_inverted, flip, redirect};
 ghost use Rattle.majority.specs.Value.{majority_of};
 
 // A record of a table: its kind, its block and its three fields.
-#[derive(Drop)]
+#[derive(Clone, Copy)]
 pub struct Record {
     pub kind: u8,
     pub block: u8,
@@ -14,7 +16,7 @@ pub struct Record {
 }
 
 // How many inputs, gates and outputs a table has.
-#[derive(Drop)]
+#[derive(Clone, Copy)]
 pub struct Counts {
     pub inputs: usize,
     pub gates: usize,

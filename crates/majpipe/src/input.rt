@@ -7,7 +7,7 @@ use program::{Got, read_whole};
 
 // Why a request cannot be answered: the input ends inside it, a part is longer or places are more than is allowed, or a read failed with this
 // error.
-#[derive(Drop)]
+#[derive(Clone, Copy)]
 pub enum Fault {
     Cut,
     TooLong(u32),
@@ -16,7 +16,7 @@ pub enum Fault {
 }
 
 // Where a request begins: its operation, or the input's end, which is the normal one.
-#[derive(Drop)]
+#[derive(Clone, Copy)]
 pub enum Start {
     Operation(u8),
     End,
@@ -24,21 +24,21 @@ pub enum Start {
 }
 
 // A number of a request.
-#[derive(Drop)]
+#[derive(Clone, Copy)]
 pub enum Word {
     Number(u32),
     Not(Fault),
 }
 
 // The counts of a reading.
-#[derive(Drop)]
+#[derive(Clone, Copy)]
 pub enum Claim {
     Counted(Counts),
     Not(Fault),
 }
 
 // A part of a request, by its length.
-#[derive(Drop)]
+#[derive(Clone, Copy)]
 pub enum Part {
     Bytes(usize),
     Not(Fault),

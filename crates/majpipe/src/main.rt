@@ -1,4 +1,6 @@
 // Answers requests on standard input with replies on standard output, until the input ends: the library for every other language.
+#![tactic(auto)]
+
 mod input;
 mod places;
 mod reply;
@@ -25,7 +27,7 @@ use words::Placed;
 const PART: usize = 65536;
 
 // What became of a request: it was answered, there was none, or it cannot be answered.
-#[derive(Drop)]
+#[derive(Clone, Copy)]
 enum Outcome {
     Answered,
     End,
@@ -251,7 +253,7 @@ fn placed(answer: Placed) -> Reply {
 }
 
 // What goes to the places: the outputs' words from this assignment on, or their totals.
-#[derive(Drop)]
+#[derive(Clone, Copy)]
 enum Asked {
     Words(u32),
     Totals,
@@ -300,7 +302,7 @@ fn words_from(table: &[u8], used: usize) -> Outcome {
 }
 
 // What stands before the buffer in a request: a table's used length or a function's number; or, of a reading, its counts.
-#[derive(Drop)]
+#[derive(Clone, Copy)]
 enum Lead {
     Number(u32),
     Counted(Counts),
@@ -406,7 +408,7 @@ fn faulty(program: Program, fault: Fault) -> End {
 }
 
 // What follows a request: the next one, or the program's end.
-#[derive(Drop)]
+#[derive(Clone, Copy)]
 enum Next {
     On,
     Over(End),

@@ -7,7 +7,7 @@ use refusals::Refusal;
 use text::Line;
 
 // The bytes so far, which a line holds as it would a text.
-#[derive(Drop)]
+#[derive(Clone, Copy)]
 pub struct Reply {
     pub line: Line,
 }

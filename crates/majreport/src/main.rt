@@ -1,4 +1,6 @@
 // Reports on the table on standard input: prints its size and its depth, or the refusal that it meets.
+#![tactic(auto)]
+
 use libc::STDOUT_FILENO;
 use program::{Called, End, Input, Program};
 use questions::{Reported, Size};

@@ -1,5 +1,7 @@
 // Runs the script in the file that its argument names on the table on standard input: writes the table as the script left it to
 // standard output, and what the script replied to standard error.
+#![tactic(auto)]
+
 use libc::{STDERR_FILENO, STDOUT_FILENO};
 use program::{Called, End, Input, Program};
 use scripts::Script;

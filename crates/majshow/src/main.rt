@@ -1,4 +1,6 @@
 // Shows the table on standard input in words, one line a record, or prints the refusal that it meets.
+#![tactic(auto)]
+
 use libc::STDOUT_FILENO;
 use majority::Record;
 use program::{Called, End, Input, Program};

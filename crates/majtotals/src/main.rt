@@ -1,4 +1,6 @@
 // Counts over all assignments of the table on standard input: prints a line an output, how many make it true, or the refusal that the table meets.
+#![tactic(auto)]
+
 use libc::STDOUT_FILENO;
 use majority::MOST_OUTPUTS;
 use program::{Called, End, Input, Program};

@@ -1,5 +1,7 @@
 // Works out the outputs of the table on standard input under the assignment that its argument gives: prints the outputs' number,
 // or the refusal that the table or the assignment meets.
+#![tactic(auto)]
+
 use libc::STDOUT_FILENO;
 use program::{Called, End, Input, Program};
 use questions::Valued;

@@ -1,5 +1,7 @@
 // Works out the outputs of the table on standard input under sixty-four assignments, of which its argument is the first: prints a line an output, its
 // word, or the refusal that the table or the assignment meets.
+#![tactic(auto)]
+
 use libc::STDOUT_FILENO;
 use majority::MOST_OUTPUTS;
 use program::{Called, End, Input, Program};

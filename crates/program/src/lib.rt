@@ -1,4 +1,6 @@
 // What every program shares: how it was called, what it reads and writes, what it says of a failure, and how it ends.
+#![tactic(auto)]
+
 mod reads;
 mod reasons;
 mod writes;
@@ -14,7 +16,7 @@ pub use writes::write_whole;
 
 // How a program ends: what it was asked was accepted and its answer is written whole; or it was refused, stopped or too long; or the program
 // was called wrongly, or its input or output failed.
-#[derive(Drop)]
+#[derive(Clone, Copy)]
 pub enum End {
     Accepted,
     Refused,
@@ -22,7 +24,7 @@ pub enum End {
 }
 
 // A program as it was called: its name, the file that its status goes to, below 0 for none, and which of its arguments is the first of its own.
-#[derive(Drop)]
+#[derive(Clone, Copy)]
 pub struct Program {
     name: Line,
     status: i32,
@@ -30,14 +32,14 @@ pub struct Program {
 }
 
 // What is to be done: to go on, or nothing more.
-#[derive(Drop)]
+#[derive(Clone, Copy)]
 pub enum Called {
     Rightly,
     Done(End),
 }
 
 // What stands on standard input: a table of so many bytes; or none, as was said already.
-#[derive(Drop)]
+#[derive(Clone, Copy)]
 pub enum Input {
     Table(usize),
     None(End),

@@ -5,7 +5,7 @@ ghost use Rattle.std.specs.Prelude.{length};
 use crate::writes::{Moved, outcome};
 
 // What was read: so many bytes, or an error's number.
-#[derive(Drop)]
+#[derive(Clone, Copy)]
 pub enum Got {
     Bytes(usize),
     Failed(i32),

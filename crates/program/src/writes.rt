@@ -3,7 +3,7 @@ ghost use Rattle.program.specs.inner.Moved.{MovedWithin};
 ghost use Rattle.std.specs.Prelude.{length};
 
 // What one call of read or write did: it moved so many bytes, or none; it is to be made again, since a signal came between; or it failed.
-#[derive(Drop)]
+#[derive(Clone, Copy)]
 pub(crate) enum Moved {
     Bytes(usize),
     Nothing,

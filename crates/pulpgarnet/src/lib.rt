@@ -1,4 +1,6 @@
 // The static library: every call for C, on pointers with lengths (include/pulpgarnet.h). Each reply is a struct of numbers.
+#![tactic(auto)]
+
 ghost use Rattle.std.specs.Prelude.{◌≡◌, [], length};
 ghost use Rattle.tables.specs.Calls.{check_of};
 ghost use Rattle.questions.specs.Said.{said_value, said_report};
@@ -24,7 +26,7 @@ use translation::Mode;
 
 // Each struct begins with the refusal's number, 0 for none, the record that it carries, which the header calls `record`, and which edge of it.
 #[repr(C)]
-#[derive(Drop)]
+#[derive(Clone, Copy)]
 pub struct Checked {
     pub refusal: u32,
     pub at: usize,
@@ -35,7 +37,7 @@ pub struct Checked {
 }
 
 #[repr(C)]
-#[derive(Drop)]
+#[derive(Clone, Copy)]
 pub struct Valued {
     pub refusal: u32,
     pub at: usize,
@@ -44,7 +46,7 @@ pub struct Valued {
 }
 
 #[repr(C)]
-#[derive(Drop)]
+#[derive(Clone, Copy)]
 pub struct Reported {
     pub refusal: u32,
     pub at: usize,
@@ -54,7 +56,7 @@ pub struct Reported {
 }
 
 #[repr(C)]
-#[derive(Drop)]
+#[derive(Clone, Copy)]
 pub struct Placed {
     pub refusal: u32,
     pub at: usize,
@@ -63,7 +65,7 @@ pub struct Placed {
 }
 
 #[repr(C)]
-#[derive(Drop)]
+#[derive(Clone, Copy)]
 pub struct Stepped {
     pub refusal: u32,
     pub at: usize,
@@ -72,7 +74,7 @@ pub struct Stepped {
 }
 
 #[repr(C)]
-#[derive(Drop)]
+#[derive(Clone, Copy)]
 pub struct Ran {
     pub refusal: u32,
     pub at: usize,
@@ -82,7 +84,7 @@ pub struct Ran {
 }
 
 #[repr(C)]
-#[derive(Drop)]
+#[derive(Clone, Copy)]
 pub struct Written {
     pub refusal: u32,
     pub at: usize,
@@ -91,7 +93,7 @@ pub struct Written {
 }
 
 #[repr(C)]
-#[derive(Drop)]
+#[derive(Clone, Copy)]
 pub struct Deep {
     pub refusal: u32,
     pub at: usize,

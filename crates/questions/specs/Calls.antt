@@ -1,7 +1,6 @@
 -- What the questions reply (SPEC 3 and 4): the check's refusal, or the answer of the records that the bytes hold.
-use Rattle.std.specs.Prelude.{ℕ, ◌/◌, List}
+use Rattle.std.specs.Prelude.{ℕ, ◌/◌, List, if◌then◌else◌}
 use Rattle.refusals.specs.Why.{why}
-use Rattle.majority.specs.If.{if◌then◌else◌}
 use Rattle.majority.specs.Value.{bit_past, output_number}
 use Rattle.majority.specs.Level.{depth}
 use Rattle.refusals.specs.Reply.{Reply, accepted, refused, and_then}

@@ -1,4 +1,6 @@
 // What a table in lent bytes answers: its outputs' number under an assignment, its size and its depth.
+#![tactic(auto)]
+
 mod claimed;
 mod levels;
 mod values;
@@ -14,20 +16,20 @@ use refusals::Refusal;
 use tables::check;
 use values::value_after;
 
-#[derive(Drop)]
+#[derive(Clone, Copy)]
 pub enum Valued {
     Outputs(u32),
     Refused(Refusal),
 }
 
 // A table's size, the number of its gates, and its depth.
-#[derive(Drop)]
+#[derive(Clone, Copy)]
 pub struct Size {
     pub gates: usize,
     pub depth: usize,
 }
 
-#[derive(Drop)]
+#[derive(Clone, Copy)]
 pub enum Reported {
     Whole(Size),
     Refused(Refusal),

@@ -1,4 +1,6 @@
 // A reading: lent records with their three counts, and the questions that it answers.
+#![tactic(auto)]
+
 ghost use Rattle.std.specs.Prelude.{◌≡◌, take};
 ghost use Rattle.tables.specs.Said.{said_check};
 ghost use Rattle.tables.specs.Claimed.{claimed_check};
@@ -96,7 +98,7 @@ fn translate_anew_parts(
 }
 
 // The used length and counts of a table, all zero where there is none.
-#[derive(Drop)]
+#[derive(Clone, Copy)]
 struct Found {
     used: usize,
     inputs: usize,

@@ -1,9 +1,11 @@
 // Why a call is refused.
+#![tactic(auto)]
+
 ghost use Rattle.std.specs.Prelude.{◌≡◌};
 ghost use Rattle.refusals.specs.Why.{refusal_number, refusal_record, refusal_edge};
 
 // The refusals, in the order of their numbers. What one holds is the number of a record, counted from 0, and the last also which of its edges, counted from 1.
-#[derive(Drop)]
+#[derive(Clone, Copy)]
 pub enum Refusal {
     Length,
     Kind(usize),

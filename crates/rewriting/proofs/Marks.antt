@@ -1,7 +1,7 @@
 -- The marks that are handed down, record by record from the last, are those of the reached nodes.
 use Rattle.std.proofs.Common.{◌≡◌, ℕ, zero, suc, ◌+◌, ◌-◌, ◌/◌, ◌<◌, ◌≤◌, Bool, true, false, ◌||◌, eqb, List, [], ◌∷◌, length, get_or, set, sym, refl, ◌∙◌, subst, arith, length-set, drop_of_length-le, drop-cons, get_or-set_other, get_or-set_same}
 use native.Mathlib.Decide.{ℕ_discrete}
-use Rattle.majority.specs.If.{if◌then◌else◌}
+use Rattle.std.specs.Prelude.{if◌then◌else◌}
 use Rattle.majority.specs.Edge.{node_of}
 use Rattle.majority.specs.Table.{blank, record_at, Below, WellFormed}
 use Rattle.rules.specs.Sweep.{member, reached}

@@ -1,7 +1,7 @@
 -- The numbers of the nodes that sweep leaves, 0 for each gate that it drops, and what becomes of the edge of a followed gate by them.
 use Rattle.std.proofs.Common.{◌≡◌, ℕ, zero, suc, ◌+◌, ◌<◌, ◌≤◌, Bool, true, false, eqb, List, get_or, set, sym, refl, ap, ◌∙◌, arith, ne_eqb}
 use native.Mathlib.Decide.{ℕ_discrete}
-use Rattle.majority.specs.If.{if◌then◌else◌}
+use Rattle.std.specs.Prelude.{if◌then◌else◌}
 use Rattle.majority.specs.Edge.{node_of}
 use Rattle.majority.specs.Table.{WellFormed}
 use Rattle.majority.specs.declared.Record.{Record}

@@ -1,8 +1,7 @@
 -- Following the gates (SPEC 5.7): a script, and with it a place for each gate of the first table. It holds the edge that has the gate's first value now, or 0 where the gate was swept away.
-use Rattle.std.specs.Prelude.{ℕ, suc, Bool, false, not, ◌&&◌, ◌||◌, List, length, nat_lt}
+use Rattle.std.specs.Prelude.{ℕ, suc, Bool, false, not, ◌&&◌, ◌||◌, List, length, nat_lt, if◌then◌else◌}
 use Rattle.refusals.specs.Why.{why}
 use Rattle.refusals.specs.Reply.{Reply, accepted, refused}
-use Rattle.majority.specs.If.{if◌then◌else◌}
 use Rattle.majority.specs.declared.Record.{Record}
 use Rattle.majority.specs.declared.Counts.{Counts}
 use Rattle.rules.specs.Rules.{plain}

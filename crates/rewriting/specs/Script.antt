@@ -1,6 +1,5 @@
 -- Scripts (SPEC 5.5): steps are taken in order until one is refused, each with the used length that the one before replied.
-use Rattle.std.specs.Prelude.{ℕ, zero, suc, ◌+◌, ◌-◌, ◌/◌, ◌%◌, Bool, not, List, [], ◌∷◌, length, ◌==◌}
-use Rattle.majority.specs.If.{if◌then◌else◌}
+use Rattle.std.specs.Prelude.{ℕ, zero, suc, ◌+◌, ◌-◌, ◌/◌, ◌%◌, Bool, not, List, [], ◌∷◌, length, ◌==◌, if◌then◌else◌}
 use Rattle.refusals.specs.Reply.{Reply, accepted, refused}
 use Rattle.rules.specs.declared.Step.{Step}
 use Rattle.majority.specs.declared.Counts.{Counts}

@@ -1,6 +1,5 @@
 -- What goes along with a table through a script (SPEC 5.6), as a probe does: by each step taken it becomes f of the table before the step, of the step, and of what it was.
-use Rattle.std.specs.Prelude.{ℕ, ◌/◌, not, List, [], ◌∷◌}
-use Rattle.majority.specs.If.{if◌then◌else◌}
+use Rattle.std.specs.Prelude.{ℕ, ◌/◌, not, List, [], ◌∷◌, if◌then◌else◌}
 use Rattle.rules.specs.declared.Step.{Step}
 use Rattle.majority.specs.declared.Record.{Record}
 use Rattle.tables.specs.Bytes.{table_of}

@@ -1,4 +1,6 @@
 // Steps and scripts on a table in a lent slice.
+#![tactic(auto)]
+
 mod applying;
 mod changing;
 mod following;
@@ -21,21 +23,21 @@ use running::{run, stopped, uneven};
 use tables::{Checked, check};
 
 // What a step replies: the new used length, or the refusal.
-#[derive(Drop)]
+#[derive(Clone, Copy)]
 pub enum Stepped {
     Used(usize),
     Refused(Refusal),
 }
 
 // How a script ended: every step was taken, or one was refused.
-#[derive(Drop)]
+#[derive(Clone, Copy)]
 pub enum Ending {
     Finished,
     Stopped(Refusal),
 }
 
 // How far a script has come: the steps taken, the used length, and how it ended.
-#[derive(Drop)]
+#[derive(Clone, Copy)]
 pub struct Progress {
     pub taken: usize,
     pub used: usize,
@@ -43,7 +45,7 @@ pub struct Progress {
 }
 
 // What a step makes of a table that was checked: so many gates, or the refusal.
-#[derive(Drop)]
+#[derive(Clone, Copy)]
 pub(crate) enum Applied {
     Taken(usize),
     Refused(Refusal),

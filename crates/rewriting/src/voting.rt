@@ -96,7 +96,7 @@ pub(crate) fn voter_form(s: &[u8], counts: Counts, gate: u16, a: u16, b: u16) ->
 
 // How a copy changes edges: both edges to the node that it replaces, and what stands for each; the first edge that names a gate, and by how
 // much such an edge rises.
-#[derive(Drop)]
+#[derive(Clone, Copy)]
 struct Change {
     plain: u16,
     inverted: u16,

@@ -10,7 +10,7 @@ use mir.Val.{bool_byte}
 use lib.Dec.{eqb}
 use lib.ListN.{set, length-set}
 use lib.Seq.{get_or-set_same, get_or-set_other}
-use Rattle.majority.specs.If.{if◌then◌else◌}
+use Rattle.std.specs.Prelude.{if◌then◌else◌}
 use Rattle.majority.specs.Edge.{node_of}
 use Rattle.majority.specs.Table.{record_at}
 use Rattle.majority.specs.declared.Record.{Record}

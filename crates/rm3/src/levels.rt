@@ -1,6 +1,5 @@
 // The depth of the RM3 table, without writing it.
-ghost use Rattle.std.specs.Prelude.{◌≡◌, ◌+◌, ◌≤◌, ◌<◌};
-ghost use Rattle.majority.specs.If.{if◌then◌else◌};
+ghost use Rattle.std.specs.Prelude.{◌≡◌, ◌+◌, ◌≤◌, ◌<◌, if◌then◌else◌};
 ghost use Rattle.majority.specs.Edge.{node_of};
 ghost use Rattle.majority.specs.Table.{Below};
 ghost use Rattle.translation.specs.Level3.{gate_level};

@@ -1,4 +1,6 @@
 // The RM3 table of a majority table: its bytes, and its depth.
+#![tactic(auto)]
+
 mod levels;
 mod writing;
 
@@ -17,13 +19,13 @@ use writing::written_after;
 // The most bytes that an RM3 table has: 32 inputs, three operations a gate and one an output, and 32 outputs.
 pub const MOST_BYTES: usize = 8 * (MOST_INPUTS + 3 * MOST_GATES + 2 * MOST_OUTPUTS);
 
-#[derive(Drop)]
+#[derive(Clone, Copy)]
 pub enum Translated {
     Length(usize),
     Refused(Refusal),
 }
 
-#[derive(Drop)]
+#[derive(Clone, Copy)]
 pub enum Depth {
     Depth(usize),
     Refused(Refusal),

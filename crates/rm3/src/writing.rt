@@ -21,7 +21,7 @@ use tables::{Checked, put_record, record_at};
 use translation::{Mode, in_order, operation, output, output_helped, pattern_of};
 
 // The operand of an edge, and how many records the table then has.
-#[derive(Drop)]
+#[derive(Clone, Copy)]
 pub(crate) struct Spot {
     pub operand: u16,
     pub at: u16,

@@ -1,4 +1,6 @@
 // Lists the RM3 table of the table on standard input, each helper made anew, or prints the refusal that it meets.
+#![tactic(auto)]
+
 use program::{Called, Program};
 use translation::Mode;
 

@@ -1,5 +1,7 @@
 // Writes the bytes of the RM3 table of the table on standard input to standard output, with one helper per inverse or, where its argument says
 // so, each made anew. Where it cannot, says why on standard error.
+#![tactic(auto)]
+
 use libc::{STDERR_FILENO, STDOUT_FILENO};
 use program::{Called, End, Input, Program};
 use rm3::Translated;

@@ -7,7 +7,7 @@ use native.Mathlib.Omega.{arith}
 use lib.Dec.{eqb}
 use lib.ListN.{length, get_or, get_or-map}
 use lib.Seq.{map-set_same}
-use Rattle.majority.specs.If.{if◌then◌else◌}
+use Rattle.std.specs.Prelude.{if◌then◌else◌}
 use Rattle.majority.specs.Edge.{redirect}
 use Rattle.majority.specs.Table.{blank, gate, record_at, WellFormed}
 use Rattle.majority.specs.Edit.{node_record, redirect_all, insert, become}

@@ -5,7 +5,7 @@ use mathlib.Core.Bool.{Bool, true, false}
 use mathlib.Core.List.{List}
 use native.Mathlib.Omega.{arith}
 use lib.Dec.{eqb}
-use Rattle.majority.specs.If.{if◌then◌else◌}
+use Rattle.std.specs.Prelude.{if◌then◌else◌}
 use Rattle.majority.specs.Table.{gate}
 use Rattle.majority.specs.Value.{values}
 use Rattle.majority.specs.Edit.{node_record, become}

@@ -10,7 +10,7 @@ use native.Mathlib.Decide.{dec_lt}
 use borrow.Author.Tests.{eq-eqb, ne_eqb}
 use lib.Dec.{eqb}
 use Rattle.refusals.specs.Reply.{Reply, accepted}
-use Rattle.majority.specs.If.{if◌then◌else◌}
+use Rattle.std.specs.Prelude.{if◌then◌else◌}
 use Rattle.majority.specs.Table.{WellFormed}
 use Rattle.majority.specs.Value.{value}
 use Rattle.majority.specs.Check.{count}

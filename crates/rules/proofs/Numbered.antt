@@ -6,7 +6,7 @@ use mathlib.Core.List.{List}
 use native.Mathlib.Omega.{arith}
 use borrow.Author.Tests.{eqb-true}
 use lib.Dec.{eqb}
-use Rattle.majority.specs.If.{if◌then◌else◌}
+use Rattle.std.specs.Prelude.{if◌then◌else◌}
 use Rattle.refusals.specs.Reply.{Reply, accepted}
 use Rattle.majority.specs.declared.Record.{Record}
 use Rattle.rules.specs.Kept.{moves_of}

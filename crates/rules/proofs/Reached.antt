@@ -9,7 +9,7 @@ use native.Mathlib.Decide.{dec_lt, ℕ_discrete}
 use borrow.Author.Tests.{eq-eqb, ne_eqb}
 use lib.Dec.{eqb}
 use lib.ListN.{length}
-use Rattle.majority.specs.If.{if◌then◌else◌}
+use Rattle.std.specs.Prelude.{if◌then◌else◌}
 use Rattle.majority.specs.Edge.{node_of}
 use Rattle.majority.specs.Table.{record_at, Below, WellFormed}
 use Rattle.majority.specs.Node.{by_kind}

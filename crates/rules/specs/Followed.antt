@@ -1,6 +1,5 @@
 -- Probes (SPEC 5.6): a gate of a first table is followed through steps. It may be swept away; while it is present, it has its first value or the inverse of it, and its first block.
-use Rattle.std.specs.Prelude.{ℕ, ◌+◌, ◌%◌, ◌≤◌, ◌<◌, ◌≡◌, Bool, ◌&&◌, List, eqb}
-use Rattle.majority.specs.If.{if◌then◌else◌}
+use Rattle.std.specs.Prelude.{ℕ, ◌+◌, ◌%◌, ◌≤◌, ◌<◌, ◌≡◌, Bool, ◌&&◌, List, eqb, if◌then◌else◌}
 use Rattle.majority.specs.Edge.{node_of, is_inverted}
 use Rattle.majority.specs.Node.{edge_worth}
 use Rattle.majority.specs.Value.{values, value}

@@ -1,6 +1,5 @@
 -- What rewriting keeps (SPEC 5.2, 5.3 and 5.6): of each node, and so of the outputs and of depth; and of its block.
-use Rattle.std.specs.Prelude.{ℕ, suc, ◌+◌, ◌≤◌, ◌<◌, ◌≡◌, Bool, true, false, not, List, eqb}
-use Rattle.majority.specs.If.{if◌then◌else◌}
+use Rattle.std.specs.Prelude.{ℕ, suc, ◌+◌, ◌≤◌, ◌<◌, ◌≡◌, Bool, true, false, not, List, eqb, if◌then◌else◌}
 use Rattle.majority.specs.Edge.{raised}
 use Rattle.majority.specs.Table.{WellFormed}
 use Rattle.majority.specs.Value.{value, output_value}

@@ -1,7 +1,6 @@
 -- Rules 1 to 7 and 10 (SPEC 5.3), each as the form that it asks for and the table that it makes. g is the node number of a gate. What it becomes and
 -- what is inserted before it have its block.
-use Rattle.std.specs.Prelude.{ℕ, ◌+◌, ◌*◌, Bool, not, ◌&&◌, List, [], ◌∷◌, ltb, eqb}
-use Rattle.majority.specs.If.{if◌then◌else◌}
+use Rattle.std.specs.Prelude.{ℕ, ◌+◌, ◌*◌, Bool, not, ◌&&◌, List, [], ◌∷◌, ltb, eqb, if◌then◌else◌}
 use Rattle.majority.specs.Edge.{node_of, is_inverted, flip}
 use Rattle.majority.specs.Table.{gate}
 use Rattle.majority.specs.Edit.{edges, node_record, redirect_all, insert, become}

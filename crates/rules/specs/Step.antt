@@ -1,7 +1,6 @@
 -- One step (SPEC 5.1 and 5.4): refusals 7 to 11 in their order, or the table that the rule makes.
-use Rattle.std.specs.Prelude.{ℕ, ◌+◌, ◌-◌, ◌*◌, Bool, true, false, not, ◌&&◌, ◌||◌, List, length, ltb, leb, eqb}
+use Rattle.std.specs.Prelude.{ℕ, ◌+◌, ◌-◌, ◌*◌, Bool, true, false, not, ◌&&◌, ◌||◌, List, length, ltb, leb, eqb, if◌then◌else◌}
 use Rattle.refusals.specs.Why.{why}
-use Rattle.majority.specs.If.{if◌then◌else◌}
 use Rattle.majority.specs.Edit.{node_record}
 use Rattle.rules.specs.Rules.{named, exchange, majority_form, majority_rule, associativity_form, associativity, outward_form, outward, inward_form, inward, inversion, share_form, share, opposite_form, opposite}
 use Rattle.rules.specs.Sweep.{sweep}

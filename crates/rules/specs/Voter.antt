@@ -1,6 +1,5 @@
 -- Rule 9, error voters (SPEC 5.3). Among n inputs, g is the node number of a gate, and a and b are nodes with 0 < a < b < g.
-use Rattle.std.specs.Prelude.{ℕ, suc, ◌+◌, ◌-◌, ◌*◌, Bool, true, false, ◌&&◌, ◌||◌, List, ◌++◌, map, take, drop, leb, eqb}
-use Rattle.majority.specs.If.{if◌then◌else◌}
+use Rattle.std.specs.Prelude.{ℕ, suc, ◌+◌, ◌-◌, ◌*◌, Bool, true, false, ◌&&◌, ◌||◌, List, ◌++◌, map, take, drop, leb, eqb, if◌then◌else◌}
 use Rattle.majority.specs.Edge.{flip, redirect, raise}
 use Rattle.majority.specs.Table.{record_of, gate}
 use Rattle.majority.specs.Level.{level}

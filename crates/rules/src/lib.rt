@@ -1,4 +1,6 @@
 // What a rule asks for and makes, by value: the fields that a step may have, the form of its gate, and the gates and edges that it makes.
+#![tactic(auto)]
+
 mod fields;
 mod forms;
 mod gates;
@@ -17,7 +19,7 @@ pub use gates::{
 };
 
 // A step: the number of its rule, and its three fields.
-#[derive(Drop)]
+#[derive(Clone, Copy)]
 pub struct Step {
     pub rule: u16,
     pub gate: u16,
@@ -26,7 +28,7 @@ pub struct Step {
 }
 
 // The rules, in the order of their numbers.
-#[derive(Drop)]
+#[derive(Clone, Copy)]
 pub enum Rule {
     Exchange,
     Majority,
@@ -42,7 +44,7 @@ pub enum Rule {
 
 // What a rule may ask of the fields a and b: a to be 0, 1 or 2, or a gate below the gate field, and b 0; or a and b to be nodes in rising order
 // below the gate field.
-#[derive(Drop)]
+#[derive(Clone, Copy)]
 pub enum Asked {
     Zero,
     OneOrTwo,
@@ -51,7 +53,7 @@ pub enum Asked {
 }
 
 // The rule that has a number, if any.
-#[derive(Drop)]
+#[derive(Clone, Copy)]
 pub enum Named {
     Known(Rule),
     Unknown,

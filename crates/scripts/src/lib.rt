@@ -1,4 +1,6 @@
 // What the programs that run a script share: the script's file, which their argument names, and the line of its reply.
+#![tactic(auto)]
+
 ghost use Rattle.scripts.specs.inner.File.{Within};
 
 use program::{End, Got, Program};
@@ -11,7 +13,7 @@ pub const MOST_BYTES: usize = 262144;
 pub const ROOM: usize = MOST_BYTES + 1;
 
 // What the script's file holds: so many bytes; or none that can be taken, as was said already.
-#[derive(Drop)]
+#[derive(Clone, Copy)]
 pub enum Script {
     Bytes(usize),
     None(End),

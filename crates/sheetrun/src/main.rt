@@ -1,4 +1,6 @@
 // Runs the limits of the sheet of small tables: makes each table, asks the library, and prints what was asked and answered, a line each.
+#![tactic(auto)]
+
 ghost use Rattle.std.specs.Prelude.{◌≤◌};
 
 use libc::STDOUT_FILENO;

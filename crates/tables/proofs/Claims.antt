@@ -9,7 +9,7 @@ use borrow.Author.Tests.{le-ltb, eq-eqb, eqb-true, not-false}
 use lib.Dec.{ltb, eqb}
 use lib.ListN.{length}
 use Rattle.refusals.specs.Why.{why, why_at}
-use Rattle.majority.specs.If.{if◌then◌else◌}
+use Rattle.std.specs.Prelude.{if◌then◌else◌}
 use Rattle.majority.specs.Seek.{first}
 use Rattle.majority.specs.Table.{record_at}
 use Rattle.refusals.specs.Reply.{Reply, accepted, refused, and_then}

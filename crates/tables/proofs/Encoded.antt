@@ -10,7 +10,7 @@ use lib.ListN.{length, get_or, drop, length-append, length-drop}
 use lib.Seq.{drop-cons, get_or-append-add, ext_get_or}
 use Rattle.refusals.specs.Why.{why}
 use Rattle.refusals.specs.Reply.{accepted, refused}
-use Rattle.majority.specs.If.{if◌then◌else◌}
+use Rattle.std.specs.Prelude.{if◌then◌else◌}
 use Rattle.majority.specs.Table.{blank, record_at}
 use Rattle.majority.specs.Check.{check_records}
 use Rattle.majority.specs.declared.Record.{Record}

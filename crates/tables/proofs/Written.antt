@@ -9,7 +9,7 @@ use lib.Dec.{ltb}
 use lib.ListN.{length}
 use Rattle.refusals.specs.Why.{Why, why}
 use Rattle.refusals.specs.Reply.{Reply, accepted, refused, and_then}
-use Rattle.majority.specs.If.{if◌then◌else◌}
+use Rattle.std.specs.Prelude.{if◌then◌else◌}
 use Rattle.majority.specs.declared.Record.{Record}
 use Rattle.tables.specs.Bytes.{table_of}
 use Rattle.tables.specs.Written.{in_room, in_bytes, after_reply}

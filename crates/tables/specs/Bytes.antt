@@ -1,6 +1,5 @@
 -- Records in bytes (SPEC 2.1): a byte for the kind, a byte for the block, three fields of 16 bits each, and no header.
-use Rattle.std.specs.Prelude.{ℕ, zero, suc, ◌+◌, ◌*◌, ◌/◌, ◌%◌, List, [], ◌∷◌, ◌++◌, length, get_or, drop, ltb}
-use Rattle.majority.specs.If.{if◌then◌else◌}
+use Rattle.std.specs.Prelude.{ℕ, zero, suc, ◌+◌, ◌*◌, ◌/◌, ◌%◌, List, [], ◌∷◌, ◌++◌, length, get_or, drop, ltb, if◌then◌else◌}
 use Rattle.majority.specs.Table.{record_of}
 use Rattle.majority.specs.declared.Record.{Record}
 use Rattle.tables.specs.Field.{field_at, put_bytes, put_field}

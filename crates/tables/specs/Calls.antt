@@ -1,7 +1,6 @@
 -- What the check replies (SPEC 3): refusal 1 is about bytes, the others about the records that the bytes hold.
-use Rattle.std.specs.Prelude.{ℕ, ◌/◌, ◌%◌, Bool, not, ◌||◌, List, length, ltb, eqb}
+use Rattle.std.specs.Prelude.{ℕ, ◌/◌, ◌%◌, Bool, not, ◌||◌, List, length, ltb, eqb, if◌then◌else◌}
 use Rattle.refusals.specs.Why.{why}
-use Rattle.majority.specs.If.{if◌then◌else◌}
 use Rattle.refusals.specs.Reply.{Reply, refused}
 use Rattle.majority.specs.Check.{check_records}
 use Rattle.majority.specs.declared.Counts.{Counts}

@@ -1,7 +1,6 @@
 -- What the check replies on records whose counts are claimed (SPEC 7): the used length is that of the bytes, and other counts are refused with 3.
-use Rattle.std.specs.Prelude.{ℕ, ◌%◌, Bool, not, ◌||◌, List, length, eqb}
+use Rattle.std.specs.Prelude.{ℕ, ◌%◌, Bool, not, ◌||◌, List, length, eqb, if◌then◌else◌}
 use Rattle.refusals.specs.Why.{why}
-use Rattle.majority.specs.If.{if◌then◌else◌}
 use Rattle.refusals.specs.Reply.{Reply, refused, and_then}
 use Rattle.majority.specs.Check.{bad_counts, check_fields, check_kinds}
 use Rattle.majority.specs.declared.Record.{Record}

@@ -1,8 +1,7 @@
 -- What a call that writes a table to a lent buffer replies, and the bytes that it leaves (SPEC 6).
-use Rattle.std.specs.Prelude.{ℕ, ◌*◌, List, length, ltb}
+use Rattle.std.specs.Prelude.{ℕ, ◌*◌, List, length, ltb, if◌then◌else◌}
 use Rattle.refusals.specs.Why.{why}
 use Rattle.refusals.specs.Reply.{Reply, accepted, refused}
-use Rattle.majority.specs.If.{if◌then◌else◌}
 use Rattle.majority.specs.declared.Record.{Record}
 use Rattle.tables.specs.Bytes.{holding}
 

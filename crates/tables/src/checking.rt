@@ -200,7 +200,7 @@ fn check_counted(s: &[u8], n: usize, claim: Counts, found: Counts) -> Checked
 }
 
 // The counts that are claimed, if any.
-#[derive(Drop)]
+#[derive(Clone, Copy)]
 pub(crate) enum Claim {
     Any,
     Only(Counts),

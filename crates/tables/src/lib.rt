@@ -1,4 +1,6 @@
 // A table in lent bytes: its records and its check.
+#![tactic(auto)]
+
 mod checking;
 mod claimed;
 mod fields;
@@ -14,7 +16,7 @@ use majority::Counts;
 pub use records::{field_of, put_record, record_at};
 use refusals::Refusal;
 
-#[derive(Drop)]
+#[derive(Clone, Copy)]
 pub enum Checked {
     Accepted(Counts),
     Refused(Refusal),

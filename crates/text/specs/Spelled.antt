@@ -1,6 +1,5 @@
 -- What a text spells in decimal (SPEC 9: an assignment as argument).
-use Rattle.std.specs.Prelude.{ℕ, ◌+◌, ◌-◌, ◌*◌, ◌^◌, Bool, true, ◌&&◌, List, [], ◌∷◌, length, leb, ltb, eqb}
-use Rattle.majority.specs.If.{if◌then◌else◌}
+use Rattle.std.specs.Prelude.{ℕ, ◌+◌, ◌-◌, ◌*◌, ◌^◌, Bool, true, ◌&&◌, List, [], ◌∷◌, length, leb, ltb, eqb, if◌then◌else◌}
 use Rattle.text.specs.declared.spelling.Decimal.{Decimal}
 use Rattle.text.specs.declared.spelling.Decimal.TheVariants.{Number, Other}
 

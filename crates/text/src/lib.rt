@@ -1,4 +1,6 @@
 // Lines and numbers as text. Nothing here reads or writes.
+#![tactic(auto)]
+
 mod spelling;
 
 ghost use Rattle.std.specs.Prelude.{◌≡◌, ◌%◌, min};
@@ -12,7 +14,7 @@ pub use spelling::{Decimal, number_of};
 pub const WIDTH: usize = 128;
 
 // A line that is made word by word. Its text is the first len bytes, or all where len is more.
-#[derive(Drop)]
+#[derive(Clone, Copy)]
 pub struct Line {
     bytes: [u8; WIDTH],
     len: usize,

@@ -3,7 +3,7 @@ ghost use Rattle.std.specs.Prelude.{◌≡◌};
 ghost use Rattle.text.specs.Spelled.{spelled};
 
 // What a text spells: a number below 2^32 in decimal digits, or something else.
-#[derive(Drop)]
+#[derive(Clone, Copy)]
 pub enum Decimal {
     Number(u32),
     Other,

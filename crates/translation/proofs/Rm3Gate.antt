@@ -6,7 +6,7 @@ use mathlib.Core.List.{List, [], ◌∷◌}
 use native.Mathlib.Omega.{arith}
 use lib.Dec.{eqb}
 use lib.ListN.{length}
-use Rattle.majority.specs.If.{if◌then◌else◌}
+use Rattle.std.specs.Prelude.{if◌then◌else◌}
 use Rattle.majority.specs.Table.{blank, record_at, Below}
 use Rattle.translation.specs.Rm3.{operation}
 use Rattle.translation.specs.Translate.{Draft, Placed, class_of, middle, place, in_order_of, gate3}

@@ -7,7 +7,7 @@ use native.Mathlib.Omega.{arith}
 use native.Mathlib.Decide.{dec_lt}
 use lib.ListN.{length, take, drop, length-drop}
 use lib.Seq.{get_or-drop}
-use Rattle.majority.specs.If.{if◌then◌else◌}
+use Rattle.std.specs.Prelude.{if◌then◌else◌}
 use Rattle.majority.specs.Table.{blank, record_at, WellFormed}
 use Rattle.translation.specs.Translate.{Class, constant, plain, inverted, class_of, needs_helper, middle, start, all_nodes3, parts3, operations}
 use Rattle.translation.specs.Count3.{helper_count, helpers_of, gate_operations, output_operations, record_operations, total}

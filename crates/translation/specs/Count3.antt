@@ -1,6 +1,5 @@
 -- How many operations a translation has at most (SPEC 6.2), told from the records alone: exactly so many where helpers are made anew.
-use Rattle.std.specs.Prelude.{ℕ, ◌+◌, Bool, false, List, [], ◌∷◌, eqb}
-use Rattle.majority.specs.If.{if◌then◌else◌}
+use Rattle.std.specs.Prelude.{ℕ, ◌+◌, Bool, false, List, [], ◌∷◌, eqb, if◌then◌else◌}
 use Rattle.majority.specs.Node.{by_kind}
 use Rattle.translation.specs.Translate.{Class, class_of, middle, needs_helper}
 use Rattle.majority.specs.declared.Record.{Record}

@@ -1,6 +1,5 @@
 -- The translation to RM3 (SPEC 6.2), in either mode: a node's helper is made anew at each need, or once.
-use Rattle.std.specs.Prelude.{ℕ, ◌+◌, ◌-◌, Bool, true, false, List, [], ◌∷◌, ◌++◌, eqb, length, get_or, take, drop}
-use Rattle.majority.specs.If.{if◌then◌else◌}
+use Rattle.std.specs.Prelude.{ℕ, ◌+◌, ◌-◌, Bool, true, false, List, [], ◌∷◌, ◌++◌, eqb, length, get_or, take, drop, if◌then◌else◌}
 use Rattle.majority.specs.Edge.{node_of, is_inverted}
 use Rattle.majority.specs.Table.{input, output}
 use Rattle.majority.specs.Node.{by_kind}

@@ -1,4 +1,6 @@
 // The records of RM3 by value: the 27 patterns of a gate's edges, and the operations.
+#![tactic(auto)]
+
 ghost use Rattle.std.specs.Prelude.{◌≡◌, false, ◌<◌};
 ghost use Rattle.majority.specs.Table.{output as output_record};
 ghost use Rattle.translation.specs.Rm3.{operation as operation_record};
@@ -18,14 +20,14 @@ const PLAIN: usize = 1;
 const INVERTED: usize = 2;
 
 // Whether a node's helper is made anew at each need, or once, at the first, and used again.
-#[derive(Drop)]
+#[derive(Clone, Copy)]
 pub enum Mode {
     Anew,
     Once,
 }
 
 // The middle place, counted from 1, and whether the first, second and third edge need a helper.
-#[derive(Drop)]
+#[derive(Clone, Copy)]
 pub struct Pattern {
     pub middle: u8,
     pub first: bool,

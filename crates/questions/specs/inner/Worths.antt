@@ -1,6 +1,5 @@
 -- Lists of what nodes are worth (SPEC 2.3 and 2.4), as a question works them out.
-use Rattle.std.specs.Prelude.{◌≡◌, ℕ, suc, ◌≤◌, Bool, false, not, List, length, get_or, slice_index_or}
-use Rattle.majority.specs.If.{if◌then◌else◌}
+use Rattle.std.specs.Prelude.{◌≡◌, ℕ, suc, ◌≤◌, Bool, false, not, List, length, get_or, slice_index_or, if◌then◌else◌}
 use Rattle.majority.specs.Edge.{node_of, is_inverted}
 use Rattle.majority.specs.Node.{Meaning, worth}
 use Rattle.majority.specs.Value.{majority_of, bit}

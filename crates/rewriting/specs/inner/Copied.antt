@@ -1,6 +1,5 @@
 -- What copying the gates up to g leaves in a buffer (SPEC 5.3, rule 9), with edges of 16 bits.
-use Rattle.std.specs.Prelude.{◌≡◌, ℕ, suc, ◌+◌, ◌-◌, ◌*◌, ◌%◌, ◌<◌, ◌≤◌, ltb, List, length, drop, ◌==◌, nat_lt}
-use Rattle.majority.specs.If.{if◌then◌else◌}
+use Rattle.std.specs.Prelude.{◌≡◌, ℕ, suc, ◌+◌, ◌-◌, ◌*◌, ◌%◌, ◌<◌, ◌≤◌, ltb, List, length, drop, ◌==◌, nat_lt, if◌then◌else◌}
 use Rattle.majority.specs.Edge.{flip, redirect}
 use Rattle.majority.specs.Edit.{edges}
 use Rattle.rules.specs.Voter.{in_block}

@@ -1,7 +1,6 @@
 -- The check with counts that are claimed or with none (SPEC 3 and 7), as one function makes it for both.
-use Rattle.std.specs.Prelude.{ℕ, ◌/◌, List}
+use Rattle.std.specs.Prelude.{ℕ, ◌/◌, List, if◌then◌else◌}
 use Rattle.refusals.specs.Why.{why}
-use Rattle.majority.specs.If.{if◌then◌else◌}
 use Rattle.refusals.specs.Reply.{Reply, refused, and_then}
 use Rattle.majority.specs.Check.{check_kinds}
 use Rattle.majority.specs.declared.Record.{Record}
