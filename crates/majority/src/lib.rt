@@ -53,6 +53,7 @@ pub fn inverted(edge: u16) -> bool
 }
 
 // The edge to the same node, inverted where the given one is not.
+#[tactic(auto, unfolding(crate::specs::Edge::flip))]
 pub fn flipped(edge: u16) -> u16
     ensures { result ≡ flip edge }
 {
@@ -60,6 +61,7 @@ pub fn flipped(edge: u16) -> u16
 }
 
 // What an edge becomes where the node from is redirected to the edge to.
+#[tactic(auto, unfolding(crate::specs::Edge::redirect))]
 pub fn redirected(from: u16, to: u16, edge: u16) -> u16
     ensures { result ≡ redirect from to edge }
 {
@@ -73,6 +75,7 @@ pub fn redirected(from: u16, to: u16, edge: u16) -> u16
 }
 
 // A gate's value.
+#[tactic(auto, unfolding(crate::specs::Value::majority_of))]
 pub fn majority(a: bool, b: bool, c: bool) -> bool
     ensures { result ≡ majority_of a b c }
 {
