@@ -16,6 +16,7 @@ use majority::{Counts, GATE, INPUT, MOST_GATES, MOST_INPUTS, MOST_OUTPUTS, OUTPU
 use refusals::Refusal;
 
 // The first record from `from` on, of n records, that is of another kind; n where there is none.
+#[tactic(auto, using(crate::proofs::Decoded::table_at, majority::proofs::Seek::seek_stop, majority::proofs::Seek::seek_next, majority::proofs::Seek::seek_end), unfolding(crate::specs::inner::Runs::run_end, crate::specs::inner::Runs::other_kind))]
 fn run_end(s: &[u8], from: usize, n: usize, kind: u8) -> usize
     requires { (8 * n ≤ length s.now) × (from ≤ n) }
     ensures { result ≡ run_end (table_of s.now n) n kind from }
@@ -93,6 +94,7 @@ fn bad_edge(last: usize, i: usize, r: Record) -> u32
 }
 
 // Record i has a fault.
+#[tactic(auto, unfolding(majority::specs::Check::faulty))]
 fn is_faulty(last: usize, i: usize, r: Record) -> bool
     requires { (2 * last + 1 ≤ 18446744073709551615) × (2 * i + 1 ≤ 18446744073709551615) }
     ensures { result ≡ faulty last i r }
@@ -103,6 +105,7 @@ fn is_faulty(last: usize, i: usize, r: Record) -> bool
 }
 
 // Why record i is refused, which has a fault.
+#[tactic(auto, unfolding(majority::specs::Check::fault_of))]
 fn fault_of(last: usize, i: usize, r: Record) -> Refusal
     requires { (2 * last + 1 ≤ 18446744073709551615) × (2 * i + 1 ≤ 18446744073709551615) }
     ensures { why_of result ≡ fault_of last i r }
@@ -116,6 +119,7 @@ fn fault_of(last: usize, i: usize, r: Record) -> Refusal
 }
 
 // The first record from `from` on, up to `to`, that has a fault as one of this kind; `to` where there is none.
+#[tactic(auto, using(majority::proofs::Seek::seek_stop, majority::proofs::Seek::seek_next, majority::proofs::Seek::seek_end), unfolding(crate::specs::inner::Runs::faulty_as))]
 fn run_fault(s: &[u8], from: usize, to: usize, kind: u8, last: usize) -> usize
     requires { (8 * to ≤ length s.now) × (from ≤ to) × (2 * last + 1 ≤ 18446744073709551615) }
     ensures { result ≡ first_from (faulty_as s.now kind last) from (to - from) }
@@ -131,6 +135,7 @@ fn run_fault(s: &[u8], from: usize, to: usize, kind: u8, last: usize) -> usize
 }
 
 // The first of n records with these counts that has a fault, n where there is none: a loop for each kind.
+#[tactic(auto, using(crate::proofs::Faults::all_records, crate::proofs::Faults::first_input, crate::proofs::Faults::first_gate, crate::proofs::Faults::first_output))]
 fn first_fault(s: &[u8], n: usize, counts: Counts) -> usize
     requires { (8 * n ≤ length s.now) × (check_kinds (table_of s.now n) ≡ accepted counts) }
     ensures { result ≡ first (faulty_at (counts.inputs + counts.gates) (table_of s.now n)) n }
@@ -149,6 +154,7 @@ fn first_fault(s: &[u8], n: usize, counts: Counts) -> usize
 }
 
 // Refusals 4 and 5 of n records with these counts.
+#[tactic(auto, using(crate::proofs::Faults::all_records, crate::proofs::Faults::fault_stop, crate::proofs::Faults::fault_end))]
 fn check_fields(s: &[u8], n: usize, counts: Counts) -> Checked
     requires { (8 * n ≤ length s.now) × (check_kinds (table_of s.now n) ≡ accepted counts) }
     ensures { said_check result ≡ check_fields counts (table_of s.now n) }
@@ -162,6 +168,7 @@ fn check_fields(s: &[u8], n: usize, counts: Counts) -> Checked
 }
 
 // Refusal 2 of the n records of s, or their counts.
+#[tactic(auto, using(crate::proofs::Runs::run_at_most, crate::proofs::Runs::runs_stop, crate::proofs::Decoded::length_table, crate::proofs::Runs::runs_inside, crate::proofs::Runs::runs_pass))]
 fn check_kinds(s: &[u8], n: usize) -> Checked
     requires { 8 * n ≤ length s.now }
     ensures { said_check result ≡ check_kinds (table_of s.now n) }
@@ -187,6 +194,7 @@ fn other_counts(claim: Counts, found: Counts) -> bool
 }
 
 // Refusals 3 to 5 of n records with the counts found, for which others may be claimed.
+#[tactic(auto, unfolding(crate::specs::Claimed::check_counted))]
 fn check_counted(s: &[u8], n: usize, claim: Counts, found: Counts) -> Checked
     requires { (8 * n ≤ length s.now) × (check_kinds (table_of s.now n) ≡ accepted found) }
     ensures { said_check result ≡ check_counted claim (table_of s.now n) found }
@@ -217,6 +225,7 @@ fn claimed_of(claim: Claim, found: Counts) -> Counts
 }
 
 // Refusals 2 to 5 of the n records of s, and 3 where other counts are claimed.
+#[tactic(auto, using(crate::proofs::AfterCheck::then_accepted, crate::proofs::AfterCheck::then_refused), unfolding(crate::specs::inner::Under::check_under))]
 fn check_records(s: &[u8], n: usize, claim: Claim) -> Checked
     requires { 8 * n ≤ length s.now }
     ensures { said_check result ≡ check_under claim (table_of s.now n) }
@@ -228,6 +237,7 @@ fn check_records(s: &[u8], n: usize, claim: Claim) -> Checked
 }
 
 // Refusals 1 to 5 of the first used bytes of s, and 3 where other counts are claimed.
+#[tactic(auto, using(majority::proofs::Logic::neither), unfolding(crate::specs::inner::Under::check_used))]
 pub(crate) fn check_used(s: &[u8], used: usize, claim: Claim) -> Checked
     ensures { said_check result ≡ check_used s.now used claim }
 {

@@ -8,6 +8,7 @@ use crate::checking::{Claim, check_used};
 use majority::Counts;
 
 // Says of all bytes of s whether they hold a table with the counts claimed.
+#[tactic(auto, using(crate::proofs::Claims::used_only))]
 pub fn check_as(s: &[u8], claim: Counts) -> Checked
     ensures { said_check result ≡ claimed_check s.now claim }
 {

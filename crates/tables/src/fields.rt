@@ -9,6 +9,7 @@ fn join(low: u8, high: u8) -> u16
 }
 
 // Field k.
+#[tactic(auto, unfolding(crate::specs::Field::field_at))]
 pub(crate) fn get(s: &[u8], k: usize) -> u16
     requires { 2 * k + 1 < length s.now }
     ensures { result ≡ field_at s.now k }
@@ -17,6 +18,7 @@ pub(crate) fn get(s: &[u8], k: usize) -> u16
 }
 
 // Puts two bytes as field k.
+#[tactic(auto, unfolding(crate::specs::Field::put_bytes))]
 pub(crate) fn put_bytes(s: &mut [u8], k: usize, low: u8, high: u8)
     requires { 2 * k + 1 < length s.old }
     ensures { s.new ≡ put_bytes s.old k low high }

@@ -23,6 +23,7 @@ pub enum Checked {
 }
 
 // Says of the first used bytes of s whether they hold a table.
+#[tactic(auto, using(crate::proofs::Claims::used_any))]
 pub fn check(s: &[u8], used: usize) -> Checked
     ensures { said_check result ≡ check_of s.now used }
 {

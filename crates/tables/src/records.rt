@@ -21,6 +21,7 @@ pub(crate) fn record_as(s: &[u8], i: usize, kind: u8) -> Record
 }
 
 // Field d, below 4, of the eight bytes i, or 0 where the slice does not hold them whole.
+#[tactic(auto, unfolding(crate::specs::Bytes::field_of))]
 pub fn field_of(s: &[u8], i: usize, d: usize) -> u16
     ensures { result ≡ field_of s.now i d }
 {
@@ -35,6 +36,7 @@ pub fn field_of(s: &[u8], i: usize, d: usize) -> u16
 
 // Record i, or the blank record where the slice does not hold it whole. Field by field: a record handed on whole goes through one register. Its
 // kind and block are one field, so that a record that moves on does so by fields alone.
+#[tactic(auto, using(crate::proofs::Decoded::read_fields))]
 pub fn record_at(s: &[u8], i: usize) -> Record
     ensures { result ≡ record_at (records_of s.now) i }
 {
@@ -49,6 +51,7 @@ pub fn record_at(s: &[u8], i: usize) -> Record
 }
 
 // Puts r as record i; nothing changes where the slice has no room for it.
+#[tactic(auto, unfolding(crate::specs::Bytes::put_record, crate::specs::Bytes::put_fields))]
 pub fn put_record(s: &mut [u8], i: usize, r: Record)
     ensures { s.new ≡ put_record s.old i r }
 {

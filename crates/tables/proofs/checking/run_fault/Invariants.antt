@@ -1,0 +1,12 @@
+-- `checking::run_fault` meets its contract. The loop seeks a fault: what is left decides.
+use Prim.Native.Nat.{◌-◌, ◌≤◌}
+use Rattle.majority.specs.Seek.{first_from}
+use Rattle.tables.specs.inner.Runs.{faulty_as}
+use Rattle.majority.proofs.Seek.{Seeking}
+use Rattle.tables.proofs.checking.run_fault.Given as goal
+
+abbrev pub invariant-loop-i : goal.invariant-loop-i
+invariant-loop-i l = (l.i ≤ l.to) × Seeking (faulty_as l.s l.kind l.last) l.to l.i (first_from (faulty_as l.s l.kind l.last) l.from (l.to - l.from))
+
+abbrev pub decreases-loop-i : goal.decreases-loop-i
+decreases-loop-i l = l.to - l.i
