@@ -10,6 +10,7 @@ use majority::Counts;
 use tables::check_as;
 
 // The outputs' number of the table under an assignment.
+#[tactic(auto, using(tables::proofs::Claims::claimed_sound, tables::proofs::Claims::after_claimed), unfolding(crate::specs::Claimed::claimed_evaluate))]
 pub fn evaluate_as(s: &[u8], claim: Counts, assignment: u32) -> Valued
     ensures { said_value result ≡ claimed_evaluate s.now claim assignment }
 {
@@ -17,6 +18,7 @@ pub fn evaluate_as(s: &[u8], claim: Counts, assignment: u32) -> Valued
 }
 
 // The table's size and depth.
+#[tactic(auto, using(tables::proofs::Claims::claimed_sound, tables::proofs::Claims::after_claimed), unfolding(crate::specs::Claimed::claimed_report))]
 pub fn report_as(s: &[u8], claim: Counts) -> Reported
     ensures { said_report result ≡ claimed_report s.now claim }
 {

@@ -23,6 +23,7 @@ fn wide(level: u16) -> usize
 }
 
 // The level of the node that an edge names, 0 where the array has no place for it.
+#[tactic(auto, unfolding(crate::specs::Levelled::level_at))]
 fn edge_level(levels: &[u16; 1057], edge: u16) -> u16
     ensures { result ≡ level_at levels.now (node_of edge) }
 {
@@ -34,6 +35,7 @@ fn edge_level(levels: &[u16; 1057], edge: u16) -> u16
 }
 
 // The level of a gate.
+#[tactic(auto, using(majority::proofs::Levels::above_by), unfolding(crate::specs::Levelled::gate_level))]
 fn gate_level(levels: &[u16; 1057], gate: Record) -> u16
     ensures { result ≡ gate_level levels.now gate }
 {
@@ -45,6 +47,7 @@ fn gate_level(levels: &[u16; 1057], gate: Record) -> u16
 
 // Sets the levels of the gates that are the records of s from `first` on, up to n, each from those of lower nodes.
 // Where the array has no place for them nothing is set.
+#[tactic(auto, using(crate::proofs::Levelled::levelled_next, crate::proofs::Levelled::levelled_end))]
 pub fn set_levels(levels: &mut [u16; 1057], s: &[u8], first: usize, n: usize)
     ensures { levels.new ≡ levelled (records_of s.now) first n levels.old }
 {
@@ -59,6 +62,7 @@ pub fn set_levels(levels: &mut [u16; 1057], s: &[u8], first: usize, n: usize)
 }
 
 // The highest level of the nodes that outputs name, the levels of all nodes being set.
+#[tactic(auto, using(tables::proofs::Sound::read_record, crate::proofs::Worths::output_level_lem, majority::proofs::Levels::highest_more), unfolding(majority::specs::Level::highest, majority::specs::Level::depth))]
 fn depth(levels: &[u16; 1057], s: &[u8], counts: Counts) -> u16
     requires { Sound s.now counts × Holds levels_of (table_in s.now counts) (counts.inputs + counts.gates) levels.now }
     ensures { result ≡ depth_of counts.inputs counts.gates counts.outputs (table_in s.now counts) }
@@ -74,6 +78,7 @@ fn depth(levels: &[u16; 1057], s: &[u8], counts: Counts) -> u16
 }
 
 // The size and depth of an accepted table.
+#[tactic(auto, using(crate::proofs::Levelled::levels_all, tables::proofs::Sound::fresh))]
 fn size(s: &[u8], counts: Counts) -> Size
     requires { Sound s.now counts }
     ensures { result ≡ size_of (table_in s.now counts) counts }
@@ -87,6 +92,7 @@ fn size(s: &[u8], counts: Counts) -> Size
 }
 
 // The size and depth of a table that was checked.
+#[tactic(auto, using(tables::proofs::AfterCheck::then_accepted, tables::proofs::AfterCheck::then_refused))]
 pub(crate) fn size_after(s: &[u8], checked: Checked) -> Reported
     requires { SoundAfter s.now (said_check checked) }
     ensures { said_report result ≡ and_then (said_check checked) (λ c. accepted (size_of (table_in s.now c) c)) }

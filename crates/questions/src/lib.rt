@@ -36,6 +36,7 @@ pub enum Reported {
 }
 
 // The outputs' number of the table under an assignment: bit j is output j, counted from 0.
+#[tactic(auto, using(tables::proofs::AfterCheck::checked_sound, tables::proofs::AfterCheck::after_check_lem), unfolding(crate::specs::Calls::evaluate_of))]
 pub fn evaluate(s: &[u8], used: usize, assignment: u32) -> Valued
     ensures { said_value result ≡ evaluate_of s.now used assignment }
 {
@@ -43,6 +44,7 @@ pub fn evaluate(s: &[u8], used: usize, assignment: u32) -> Valued
 }
 
 // The table's size and depth.
+#[tactic(auto, using(tables::proofs::AfterCheck::checked_sound, tables::proofs::AfterCheck::after_check_lem), unfolding(crate::specs::Calls::report_of))]
 pub fn report(s: &[u8], used: usize) -> Reported
     ensures { said_report result ≡ report_of s.now used }
 {

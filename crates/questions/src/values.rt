@@ -24,6 +24,7 @@ fn bit_past(assignment: u32, n: usize) -> bool
 }
 
 // Sets the values of the inputs, all values being false.
+#[tactic(auto, using(crate::proofs::Worths::input_more))]
 fn set_inputs(values: &mut [bool; 1057], inputs: usize, assignment: u32)
     requires { (inputs ≤ 32) × Fresh false values.old }
     ensures { HoldsInputs assignment inputs values.new }
@@ -60,6 +61,7 @@ fn gate_value(values: &[bool; 1057], gate: Record) -> bool
 }
 
 // Sets the values of the gates, those of the inputs being set.
+#[tactic(auto, using(crate::proofs::Worths::values_begin, tables::proofs::Sound::read_record, crate::proofs::Worths::reads_room, tables::proofs::Sound::sound_accepted, crate::proofs::Worths::gate_value_lem, crate::proofs::Worths::holds_more))]
 fn set_gates(values: &mut [bool; 1057], s: &[u8], counts: Counts, assignment: u32)
     requires { Sound s.now counts × HoldsInputs assignment counts.inputs values.old }
     ensures { Holds (values_of assignment) (table_in s.now counts) (counts.inputs + counts.gates) values.new }
@@ -72,6 +74,7 @@ fn set_gates(values: &mut [bool; 1057], s: &[u8], counts: Counts, assignment: u3
 }
 
 // The outputs' number, the values of all nodes being set.
+#[tactic(auto, using(tables::proofs::Sound::read_record, crate::proofs::Worths::reads_room, tables::proofs::Sound::sound_accepted, majority::proofs::Numbers::number_room, crate::proofs::Worths::output_value_lem, majority::proofs::Numbers::number_set, majority::proofs::Numbers::number_clear), unfolding(majority::specs::Value::number, majority::specs::Value::output_number))]
 fn output_number(values: &[bool; 1057], s: &[u8], counts: Counts, assignment: u32) -> u32
     requires { Sound s.now counts × Holds (values_of assignment) (table_in s.now counts) (counts.inputs + counts.gates) values.now }
     ensures { result ≡ output_number assignment counts.inputs counts.gates counts.outputs (table_in s.now counts) }
@@ -89,6 +92,7 @@ fn output_number(values: &[bool; 1057], s: &[u8], counts: Counts, assignment: u3
 }
 
 // The outputs' number of an accepted table.
+#[tactic(auto, using(tables::proofs::Sound::sound_accepted, tables::proofs::Sound::fresh))]
 fn value(s: &[u8], counts: Counts, assignment: u32) -> Valued
     requires { Sound s.now counts }
     ensures { said_value result ≡ value_of assignment (table_in s.now counts) counts }
@@ -103,6 +107,7 @@ fn value(s: &[u8], counts: Counts, assignment: u32) -> Valued
 }
 
 // The outputs' number of a table that was checked.
+#[tactic(auto, using(tables::proofs::AfterCheck::then_accepted, tables::proofs::AfterCheck::then_refused))]
 pub(crate) fn value_after(s: &[u8], checked: Checked, assignment: u32) -> Valued
     requires { SoundAfter s.now (said_check checked) }
     ensures { said_value result ≡ and_then (said_check checked) (λ c. value_of assignment (table_in s.now c) c) }
