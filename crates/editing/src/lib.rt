@@ -32,6 +32,7 @@ pub fn names(k: u16, r: Record) -> bool
 }
 
 // Redirects a node to an edge, in the records of s from `first` on, up to n.
+#[tactic(auto, using(crate::proofs::Loops::edit_room, crate::proofs::Loops::edit_start, crate::proofs::Loops::edit_next, crate::proofs::Changed::unnamed, crate::proofs::Loops::edit_skip, crate::proofs::Loops::edit_end), unfolding(crate::specs::Edited::edited_from))]
 pub fn redirect(s: &mut [u8], first: usize, n: usize, from: u16, to: u16)
     ensures { s.new ≡ redirected_from s.old first n from to }
 {
@@ -49,6 +50,7 @@ pub fn redirect(s: &mut [u8], first: usize, n: usize, from: u16, to: u16)
 }
 
 // An edge after c gates were put directly before node g.
+#[tactic(auto, unfolding(crate::specs::Edited::raise16, majority::specs::Edge::raise))]
 fn raised(g: u16, c: u16, edge: u16) -> u16
     ensures { result ≡ raise16 g c edge }
 {
@@ -66,6 +68,7 @@ fn unraised(g: u16) -> u16
     (k / 2 + (k + 1) / 2 - k) as u16
 }
 
+#[tactic(auto, using(crate::proofs::Changed::raise_none))]
 fn raised_record(g: u16, c: u16, r: Record) -> Record
     ensures { result ≡ edges (raise16 g c) r }
 {
@@ -80,6 +83,7 @@ fn raised_record(g: u16, c: u16, r: Record) -> Record
 }
 
 // Moves record i up by k places, renumbered.
+#[tactic(auto, using(crate::proofs::Changed::raise_wrapped))]
 fn move_up(s: &mut [u8], i: usize, g: u16, k: usize)
     requires { 8 * (i + k) ≤ length s.old }
     ensures { s.new ≡ put_record s.old (i + k) (edges (raise16 g k) (record_at (records_of s.old) i)) }
@@ -89,6 +93,7 @@ fn move_up(s: &mut [u8], i: usize, g: u16, k: usize)
 }
 
 // Of `all` records n are a table: there is no place directly before its node g, or no room for k more.
+#[tactic(auto, unfolding(crate::specs::Edited::no_room_of))]
 fn no_room(all: usize, n: usize, g: u16, k: usize) -> bool
     ensures { result ≡ no_room_of all n g k }
 {
@@ -103,6 +108,7 @@ fn no_room(all: usize, n: usize, g: u16, k: usize) -> bool
 
 // Makes room for k gates directly before node g, among n records: from the last down, each moves up by k places and is renumbered. Four move in a turn,
 // which the backend leaves as it is.
+#[tactic(auto, using(crate::proofs::Loops::no_move, crate::proofs::Loops::has_room, crate::proofs::Loops::move_start, crate::proofs::Loops::move_next, crate::proofs::Loops::move_end))]
 pub fn make_room(s: &mut [u8], n: usize, g: u16, k: usize)
     ensures { s.new ≡ room_at s.old n g k }
 {
@@ -127,6 +133,7 @@ pub fn make_room(s: &mut [u8], n: usize, g: u16, k: usize)
 }
 
 // Inserts a gate directly before node g, among n records.
+#[tactic(auto, using(crate::proofs::Loops::has_room, crate::proofs::Inserted::inserted_start, crate::proofs::Inserted::inserted_put, crate::proofs::Inserted::inserted_end), unfolding(crate::specs::Edited::inserted_at, tables::specs::Bytes::decode))]
 pub fn insert(s: &mut [u8], n: usize, g: u16, gate: Record)
     ensures { s.new ≡ inserted_at s.old n g (gate ∷ []) }
 {
@@ -138,6 +145,7 @@ pub fn insert(s: &mut [u8], n: usize, g: u16, gate: Record)
 }
 
 // Inserts two gates directly before node g, one after the other.
+#[tactic(auto, using(crate::proofs::Loops::has_room, crate::proofs::Inserted::inserted_start, crate::proofs::Inserted::inserted_put, crate::proofs::Inserted::inserted_end), unfolding(crate::specs::Edited::inserted_at, tables::specs::Bytes::decode))]
 pub fn insert_two(s: &mut [u8], n: usize, g: u16, first: Record, second: Record)
     ensures { s.new ≡ inserted_at s.old n g (first ∷ second ∷ []) }
 {
@@ -150,6 +158,7 @@ pub fn insert_two(s: &mut [u8], n: usize, g: u16, first: Record, second: Record)
 }
 
 // Clears the records from `first` on, up to n.
+#[tactic(auto, using(crate::proofs::Loops::edit_room, crate::proofs::Loops::edit_start, crate::proofs::Loops::edit_next, crate::proofs::Loops::edit_end), unfolding(crate::specs::Edited::edited_from))]
 pub fn clear(s: &mut [u8], first: usize, n: usize)
     ensures { s.new ≡ cleared_from s.old first n }
 {
