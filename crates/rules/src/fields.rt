@@ -57,6 +57,7 @@ fn pair_fits(counts: Counts, asked: Asked, gate: u16, a: u16, b: u16) -> bool
 }
 
 // The fields are those that the rule allows.
+#[tactic(auto, unfolding(crate::specs::Step::fields_fit))]
 pub fn fields_fit(counts: Counts, rule: Rule, gate: u16, a: u16, b: u16) -> bool
     ensures { result ≡ fields_fit counts.inputs counts.gates rule gate a b }
 {

@@ -59,6 +59,7 @@ pub enum Named {
     Unknown,
 }
 
+#[tactic(auto, unfolding(crate::specs::Step::rule_of))]
 pub fn rule_of(number: u16) -> Named
     ensures { said_rule result ≡ rule_of number }
 {
