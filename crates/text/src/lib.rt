@@ -22,6 +22,7 @@ pub struct Line {
 
 impl Line {
     // A line with no text.
+    #[tactic(auto, unfolding(crate::specs::Shown::empty_line))]
     pub fn empty() -> Line
         ensures { result ≡ empty_line }
     {
@@ -44,6 +45,7 @@ impl Line {
     }
 
     // The line with a number after its text, in decimal, cut where the line is full.
+    #[tactic(auto, using(crate::proofs::DigitCount::in_decimal))]
     pub fn number(self, n: u64) -> Line
         ensures { result ≡ with_word self (decimal n) }
     {
@@ -53,6 +55,7 @@ impl Line {
     }
 
     // The line with a number after its text, in 16 hexadecimal digits, cut where the line is full.
+    #[tactic(auto, using(crate::proofs::DigitCount::in_hexadecimal))]
     pub fn hexadecimal(self, n: u64) -> Line
         ensures { result ≡ with_word self (hexadecimal n) }
     {
@@ -76,6 +79,7 @@ impl Line {
     }
 
     // The line with a refusal after its text: its number, the record that it carries, and which edge of it.
+    #[tactic(auto, unfolding(crate::specs::Shown::with_refusal))]
     pub fn refused(self, refusal: Refusal) -> Line
         ensures { result ≡ with_refusal self (why_of refusal) }
     {
@@ -108,6 +112,7 @@ fn low(n: usize) -> u8
 }
 
 // Puts a word behind the first len bytes of a room, as far as it goes, and answers how many bytes there are then.
+#[tactic(auto, using(crate::proofs::WordPut::left_to_put, crate::proofs::WordPut::one_more, crate::proofs::WordPut::at_end, crate::proofs::WordPut::full))]
 fn put(room: &mut [u8], len: usize, word: &[u8]) -> usize
     ensures { line_of room.new result ≡ appended room.old len word.now }
 {

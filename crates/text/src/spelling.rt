@@ -10,6 +10,7 @@ pub enum Decimal {
 }
 
 // The number that a text spells: digits alone, with or without zeros in front.
+#[tactic(auto, using(crate::proofs::Digits::below, crate::proofs::Digits::above, crate::proofs::Digits::over, crate::proofs::Digits::digit, crate::proofs::Digits::at_end), unfolding(crate::specs::Spelled::spelled))]
 pub fn number_of(text: &[u8]) -> Decimal
     ensures { result ≡ spelled text.now }
 {
