@@ -31,12 +31,12 @@ module _ (mode : Mode) where
   -- operations are only put at the end
   pub outputs_begin : (operands : List ℕ) (d : Draft) (os rs : List Record) → Begins blank d.table (outputs3 mode operands d os rs).draft.table
   outputs_begin operands d os [] = begins_same d.table
-  outputs_begin operands d os (r ∷ rs) = begins_then (place_begins mode _ operands r.e1 d false) (outputs_begin operands _ _ rs)
+  outputs_begin operands d os (r ∷ rs) = begins_then (place_begins mode _ operands r.e1 d false) (outputs_begin operands (place mode 0 false operands r.e1 d).draft _ rs)
 
   -- and have block 0
   pub outputs_blocks : (k : ℕ) (operands : List ℕ) (d : Draft) (os rs : List Record) → All blank (Blocked k 0) d.table → All blank (Blocked k 0) (outputs3 mode operands d os rs).draft.table
   outputs_blocks k operands d os [] all = all
-  outputs_blocks k operands d os (r ∷ rs) all = outputs_blocks k operands _ _ rs (place_blocks mode _ operands r.e1 d k false all)
+  outputs_blocks k operands d os (r ∷ rs) all = outputs_blocks k operands (place mode 0 false operands r.e1 d).draft _ rs (place_blocks mode _ operands r.e1 d k false all)
 
   -- induction over the outputs translated so far; `table` is what the operations become
   outputs_induction : (I : ℕ → Draft → List Record → Type 0) (operands : List ℕ) (table rs : List Record)
