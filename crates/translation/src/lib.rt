@@ -66,6 +66,7 @@ const PATTERNS: [u8; 27] = [
     25, // inverted, inverted, inverted
 ];
 
+#[tactic(auto, unfolding(crate::specs::Translate::class_of))]
 pub fn class(edge: u16) -> usize
     ensures { (result ≡ class_number (class_of edge)) × (result < 3) }
 {
@@ -79,6 +80,7 @@ pub fn class(edge: u16) -> usize
 }
 
 // The pattern of a gate.
+#[tactic(auto, using(crate::proofs::PatternTable::pattern_at))]
 pub fn pattern_of(gate: Record) -> Pattern
     ensures { result ≡ pattern_of gate }
 {
@@ -95,6 +97,7 @@ pub fn pattern_of(gate: Record) -> Pattern
 }
 
 // An output's edge needs a helper.
+#[tactic(auto, using(crate::proofs::PatternTable::inverted_helped))]
 pub fn output_helped(edge: u16) -> bool
     ensures { result ≡ needs_helper false (class_of edge) }
 {
