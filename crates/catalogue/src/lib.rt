@@ -28,6 +28,7 @@ pub enum Catalogued {
 }
 
 // Hexadecimal digit k of an entry, the lowest being digit 0.
+#[tactic(auto, using(crate::proofs::NetworkRecords::digit_past), unfolding(crate::specs::Networks::digit))]
 fn digit(entry: u64, k: usize) -> u16
     ensures { result ≡ digit_of entry k }
 {
@@ -38,6 +39,7 @@ fn digit(entry: u64, k: usize) -> u16
 }
 
 // The entry of a function.
+#[tactic(auto, unfolding(crate::specs::Networks::entry_of, crate::specs::Entries::entries))]
 fn entry_of(number: u32) -> u64
     requires { number ≤ 255 }
     ensures { result ≡ entry_of number }
@@ -46,6 +48,7 @@ fn entry_of(number: u32) -> u64
 }
 
 // How many records an entry's table has.
+#[tactic(auto, using(crate::proofs::NetworkRecords::network_length))]
 fn records(entry: u64) -> usize
     ensures { result ≡ length (network_of entry) }
 {
@@ -53,6 +56,7 @@ fn records(entry: u64) -> usize
 }
 
 // Record i of an entry's table. Of its gates the last has the lowest digits.
+#[tactic(auto, using(crate::proofs::NetworkRecords::input_record, crate::proofs::NetworkRecords::output_record_lem, crate::proofs::NetworkRecords::network_length, crate::proofs::NetworkRecords::network_small, crate::proofs::NetworkRecords::gate_record))]
 fn record_of(entry: u64, i: usize) -> Record
     requires { i < length (network_of entry) }
     ensures { result ≡ record_at (network_of entry) i }
@@ -86,6 +90,7 @@ fn record_of(entry: u64, i: usize) -> Record
 }
 
 // Writes an entry's table, for which there is room.
+#[tactic(auto, using(tables::proofs::HoldsFirst::write_start, tables::proofs::HoldsFirst::write_next, tables::proofs::HoldsFirst::write_end))]
 fn write(entry: u64, out: &mut [u8])
     requires { 8 * length (network_of entry) ≤ length out.old }
     ensures { out.new ≡ holding (network_of entry) out.old }
@@ -99,6 +104,7 @@ fn write(entry: u64, out: &mut [u8])
 }
 
 // Writes the table of the function with this number to the beginning of out, and answers its length.
+#[tactic(auto, unfolding(crate::specs::Calls::catalogue_of, crate::specs::Calls::catalogue_bytes))]
 pub fn catalogue(number: u32, out: &mut [u8]) -> Catalogued
     ensures reply { said_catalogue result ≡ catalogue_of number (length out.old) }
     ensures bytes { out.new ≡ catalogue_bytes number out.old }
