@@ -12,6 +12,7 @@ use tables::record_at;
 use translation::{output_helped, pattern_of};
 
 // The level of an edge's operand: that of its node's, and one more where the edge has a helper.
+#[tactic(auto, using(crate::proofs::LevelPass::as_number))]
 fn edge_level(levels: &[u16; 1057], edge: u16, helped: bool) -> u16
     requires { (node_of edge < 1057) × (level_in levels.now (node_of edge) + (if helped then 1 else 0) ≤ 4000) }
     ensures { result ≡ level_in levels.now (node_of edge) + (if helped then 1 else 0) }
@@ -20,6 +21,7 @@ fn edge_level(levels: &[u16; 1057], edge: u16, helped: bool) -> u16
 }
 
 // The level of a gate's operation.
+#[tactic(auto, using(crate::proofs::LevelPass::edges_below, majority::proofs::Levels::above_by), unfolding(translation::specs::Patterns::pattern_by, translation::specs::Level3::gate_level))]
 fn gate_level(levels: &[u16; 1057], gate: Record) -> u16
     requires { Below 1057 gate × (gate_level (level_in levels.now) gate ≤ 4000) }
     ensures { result ≡ gate_level (level_in levels.now) gate }
@@ -32,6 +34,7 @@ fn gate_level(levels: &[u16; 1057], gate: Record) -> u16
 }
 
 // Sets the levels of the gates' operations, all levels being 0.
+#[tactic(auto, using(crate::proofs::LevelPass::levelled_start, tables::proofs::Sound::sound_accepted, tables::proofs::Sound::read_record, majority::proofs::Formed::below_more, majority::proofs::Formed::reads_lower, tables::proofs::Sound::sound_formed, crate::proofs::LevelPass::level_small, crate::proofs::LevelPass::levelled_more))]
 fn set_levels(levels: &mut [u16; 1057], s: &[u8], counts: Counts)
     requires { Sound s.now counts × Fresh 0 levels.old }
     ensures { Levelled counts (table_in s.now counts) (counts.inputs + counts.gates) levels.new }
@@ -44,6 +47,7 @@ fn set_levels(levels: &mut [u16; 1057], s: &[u8], counts: Counts)
 }
 
 // The highest level of the operands that outputs name, the levels of all nodes' operands being set.
+#[tactic(auto, using(tables::proofs::Sound::sound_accepted, tables::proofs::Sound::read_record, crate::proofs::LevelPass::names, crate::proofs::LevelPass::output_small, crate::proofs::LevelPass::output_found, majority::proofs::Levels::highest_more), unfolding(majority::specs::Level::highest, translation::specs::Rm3::depth3))]
 fn output_depth(levels: &[u16; 1057], s: &[u8], counts: Counts) -> u16
     requires { Sound s.now counts × Levelled counts (table_in s.now counts) (counts.inputs + counts.gates) levels.now }
     ensures { result ≡ depth_in (table_in s.now counts) counts }
@@ -59,6 +63,7 @@ fn output_depth(levels: &[u16; 1057], s: &[u8], counts: Counts) -> u16
 }
 
 // The depth of the RM3 table of an accepted table.
+#[tactic(auto, using(tables::proofs::Sound::fresh))]
 pub(crate) fn depth(s: &[u8], counts: Counts) -> u16
     requires { Sound s.now counts }
     ensures { result ≡ depth_in (table_in s.now counts) counts }

@@ -32,6 +32,7 @@ pub enum Depth {
 }
 
 // Writes the RM3 table of the table in the first used bytes of s, in this mode, to the beginning of out, and answers its length.
+#[tactic(auto, using(tables::proofs::AfterCheck::checked_sound, tables::proofs::AfterCheck::after_check_lem), unfolding(crate::specs::Calls::translate_of, crate::specs::Calls::translate_bytes, crate::specs::Calls::rm3_of))]
 pub fn translate(mode: Mode, s: &[u8], used: usize, out: &mut [u8]) -> Translated
     ensures reply { said_translate result ≡ translate_of mode s.now used (length out.old) }
     ensures bytes { out.new ≡ translate_bytes mode s.now used out.old }
@@ -40,6 +41,7 @@ pub fn translate(mode: Mode, s: &[u8], used: usize, out: &mut [u8]) -> Translate
 }
 
 // The same of all bytes of s, whose counts are claimed.
+#[tactic(auto, using(tables::proofs::Claims::claimed_sound, tables::proofs::Claims::after_claimed), unfolding(crate::specs::Claimed::claimed_translate, crate::specs::Claimed::claimed_bytes, crate::specs::Claimed::claimed_rm3))]
 pub fn translate_as(mode: Mode, s: &[u8], claim: Counts, out: &mut [u8]) -> Translated
     ensures reply { said_translate result ≡ claimed_translate mode s.now claim (length out.old) }
     ensures bytes { out.new ≡ claimed_bytes mode s.now claim out.old }
@@ -48,6 +50,7 @@ pub fn translate_as(mode: Mode, s: &[u8], claim: Counts, out: &mut [u8]) -> Tran
 }
 
 // The depth of the RM3 table of the table in the first used bytes of s, the same in both modes.
+#[tactic(auto, using(tables::proofs::AfterCheck::checked_sound, tables::proofs::AfterCheck::after_accepted, tables::proofs::AfterCheck::after_refused), unfolding(crate::specs::Calls::depth_of))]
 pub fn rm3_depth(s: &[u8], used: usize) -> Depth
     ensures { said_depth result ≡ depth_of s.now used }
 {

@@ -39,6 +39,7 @@ fn again(mode: Mode, helpers: &[u16; 1057], node: u16) -> u16
 }
 
 // Finds the operand of an edge. Where it needs a helper and none serves again, puts one, of this block, behind the `at` records so far.
+#[tactic(auto, using(crate::proofs::EdgeLaid::places_constant, crate::proofs::EdgeLaid::places_again, crate::proofs::EdgeLaid::places_made, crate::proofs::EdgeLaid::places_direct))]
 fn place(
     mode: Mode,
     operands: &[u16; 1057],
@@ -80,6 +81,7 @@ fn place(
 }
 
 // Puts the helpers and the operation of a gate behind the `at` records so far, and answers how many there are then.
+#[tactic(auto, using(translation::proofs::PatternTable::pattern_helped, crate::proofs::GateLaid::gate_writes), unfolding(translation::specs::Patterns::pattern_by))]
 fn put_gate(
     mode: Mode,
     operands: &[u16; 1057],
@@ -132,6 +134,7 @@ fn put_gate(
 }
 
 // Puts what stands for a node behind the `at` records so far, and answers how many there are then.
+#[tactic(auto, using(crate::proofs::NodeLaid::node_writes, crate::proofs::NodeLaid::input_writes, crate::proofs::NodeLaid::other_writes))]
 fn put_node(
     mode: Mode,
     operands: &[u16; 1057],
@@ -164,6 +167,7 @@ fn put_node(
 }
 
 // Puts what stands for the inputs and gates, sets their operands, and answers how many records there are then.
+#[tactic(auto, using(crate::proofs::NodePass::gone_start, tables::proofs::Sound::sound_accepted, tables::proofs::Sound::read_record, majority::proofs::Formed::below_more, majority::proofs::Formed::reads_lower, tables::proofs::Sound::sound_formed, crate::proofs::NodePass::gone_small, crate::proofs::NodePass::gone_more))]
 fn put_nodes(
     mode: Mode,
     operands: &mut [u16; 1057],
@@ -187,6 +191,7 @@ fn put_nodes(
 
 // Puts the helpers of the outputs behind the `made` records so far, notes the operand of each output, and answers how many records there are
 // then.
+#[tactic(auto, using(crate::proofs::OutputPass::naming_start, tables::proofs::Sound::sound_accepted, majority::proofs::Formed::reads_nodes, tables::proofs::Sound::sound_formed, tables::proofs::Sound::read_record, crate::proofs::OutputPass::naming_small, crate::proofs::OutputPass::naming_more))]
 fn put_helpers(
     mode: Mode,
     operands: &[u16; 1057],
@@ -223,6 +228,7 @@ fn put_helpers(
 }
 
 // Puts the inputs and operations, notes the operand of each output, and answers how many records there are then.
+#[tactic(auto, using(tables::proofs::Sound::fresh, crate::proofs::NodePass::gone_from_here, crate::proofs::OutputPass::naming_end))]
 fn put_operands(
     mode: Mode,
     named: &mut [u16; 32],
@@ -240,6 +246,7 @@ fn put_operands(
 }
 
 // Puts as many outputs, with these operands, from record first on.
+#[tactic(auto, unfolding(crate::specs::inner::Laid::outputs_put))]
 fn put_outputs(named: &[u16; 32], outputs: usize, first: usize, out: &mut [u8])
     requires { (outputs ≤ 32) × (first ≤ 4000) }
     ensures { out.new ≡ outputs_put named.now first outputs out.old }
@@ -252,6 +259,7 @@ fn put_outputs(named: &[u16; 32], outputs: usize, first: usize, out: &mut [u8])
 }
 
 // Writes the RM3 table, for which there is room, and answers how many records it has.
+#[tactic(auto, using(tables::proofs::Sound::sound_accepted, crate::proofs::FitsBuffer::fitting_small, crate::proofs::OutputPass::put_holding))]
 fn write(mode: Mode, s: &[u8], counts: Counts, out: &mut [u8]) -> usize
     requires { Sound s.now counts × (8 * (operands_in mode (table_in s.now counts) counts + counts.outputs) ≤ length out.old) }
     ensures records { result ≡ operands_in mode (table_in s.now counts) counts + counts.outputs }
@@ -265,6 +273,7 @@ fn write(mode: Mode, s: &[u8], counts: Counts, out: &mut [u8]) -> usize
 
 // The RM3 table has room in so many bytes. It has at most three operations a gate and one an output, and is counted only where these would
 // have no room.
+#[tactic(auto, using(tables::proofs::Sound::sound_accepted, crate::proofs::FitsBuffer::fitting_most, crate::proofs::FitsBuffer::fitting_small))]
 fn has_room(mode: Mode, s: &[u8], counts: Counts, room: usize) -> bool
     requires { Sound s.now counts }
     ensures { result ≡ leb (8 * (operands_in mode (table_in s.now counts) counts + counts.outputs)) room }
@@ -278,6 +287,7 @@ fn has_room(mode: Mode, s: &[u8], counts: Counts, room: usize) -> bool
 }
 
 // Writes the RM3 table of an accepted table, where there is room, and answers its length.
+#[tactic(auto, using(crate::proofs::FitsBuffer::room_there, crate::proofs::FitsBuffer::fitting_small, crate::proofs::FitsBuffer::fitting, crate::proofs::FitsBuffer::fitting_size, crate::proofs::FitsBuffer::not_fitting, crate::proofs::FitsBuffer::room_lacks))]
 fn written(mode: Mode, s: &[u8], counts: Counts, out: &mut [u8]) -> Translated
     requires { Sound s.now counts }
     ensures reply { said_translate result ≡ and_then (rm3_in mode (length out.old) (table_in s.now counts) counts) in_bytes }
@@ -290,6 +300,7 @@ fn written(mode: Mode, s: &[u8], counts: Counts, out: &mut [u8]) -> Translated
 }
 
 // The same of a table that was checked.
+#[tactic(auto, using(tables::proofs::AfterCheck::then_accepted, tables::proofs::AfterCheck::then_refused))]
 pub(crate) fn written_after(mode: Mode, s: &[u8], checked: Checked, out: &mut [u8]) -> Translated
     requires { SoundAfter s.now (said_check checked) }
     ensures reply { said_translate result ≡ and_then (and_then (said_check checked) (λ c. rm3_in mode (length out.old) (table_in s.now c) c)) in_bytes }
