@@ -14,6 +14,7 @@ use refusals::Refusal;
 use rules::{Named, Rule, Step, fields_fit, inserted, is_sweep, rule_of};
 
 // Rewrites by a rule that fits; answers how many gates there are then.
+#[tactic(auto, using(crate::proofs::CheckedStep::rewritten_swept, crate::proofs::CheckedStep::swept_made, crate::proofs::CheckedStep::swept_fewer, crate::proofs::CheckedStep::rewritten_holding))]
 fn rewrite(s: &mut [u8], counts: Counts, rule: Rule, gate: u16, a: u16, b: u16) -> usize
     requires { Fitting s.old counts rule gate a b }
     ensures { Rewritten s.old counts rule gate a b result s.new }
@@ -26,6 +27,7 @@ fn rewrite(s: &mut [u8], counts: Counts, rule: Rule, gate: u16, a: u16, b: u16) 
 }
 
 // Applies a rule: refusals 8 to 11 in their order, or its edit.
+#[tactic(auto, using(crate::proofs::CheckedStep::applied_refused, crate::proofs::CheckedStep::refuse_8, crate::proofs::CheckedStep::refuse_9, tables::proofs::Sound::sound_accepted, crate::proofs::CheckedStep::few_more, crate::proofs::CheckedStep::refuse_10, tables::proofs::Decoded::length_table, crate::proofs::CheckedStep::refuse_11, crate::proofs::CheckedStep::applied_taken))]
 fn apply(s: &mut [u8], counts: Counts, rule: Rule, gate: u16, a: u16, b: u16) -> Applied
     requires { Sound s.old counts }
     ensures { AppliedTo s.old counts (rule_in s.old counts rule gate a b) result s.new }
@@ -47,6 +49,7 @@ fn apply(s: &mut [u8], counts: Counts, rule: Rule, gate: u16, a: u16, b: u16) ->
 }
 
 // Applies one step, by the rule that has its number.
+#[tactic(auto, using(crate::proofs::CheckedStep::known_step, crate::proofs::CheckedStep::applied_refused, crate::proofs::CheckedStep::unknown_step))]
 fn apply_step(s: &mut [u8], counts: Counts, step: Step) -> Applied
     requires { Sound s.old counts }
     ensures { AppliedTo s.old counts (step_in s.old counts step) result s.new }
@@ -58,6 +61,7 @@ fn apply_step(s: &mut [u8], counts: Counts, step: Step) -> Applied
 }
 
 // Takes one step on a table that was checked; answers the new used length, or the refusal.
+#[tactic(auto, using(crate::proofs::Replies::taken_made, tables::proofs::Sound::sound_accepted, crate::proofs::Replies::step_replies, crate::proofs::Replies::step_leaves, crate::proofs::Replies::step_refuses))]
 pub(crate) fn take(s: &mut [u8], counts: Counts, step: Step) -> Stepped
     requires { Sound s.old counts }
     ensures reply { said_step result ≡ step_of s.old (used_by counts) step }

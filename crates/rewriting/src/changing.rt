@@ -17,6 +17,7 @@ use rules::{
 };
 use tables::put_record;
 
+#[tactic(auto, using(crate::proofs::RuleBytes::put_holding, crate::proofs::Gate::gate_at), unfolding(rules::specs::Rules::exchange))]
 fn exchange(s: &mut [u8], counts: Counts, gate: u16, a: u16)
     requires { AtGate s.old counts gate }
     ensures { s.new ≡ holding (exchange_rule a gate (table_in s.old counts)) s.old }
@@ -26,6 +27,7 @@ fn exchange(s: &mut [u8], counts: Counts, gate: u16, a: u16)
 }
 
 // Redirects the gate to an edge.
+#[tactic(auto, using(crate::proofs::Gate::at_few, crate::proofs::RuleBytes::redirect_holding))]
 fn redirect_gate(s: &mut [u8], counts: Counts, gate: u16, edge: u16)
     requires { AtGate s.old counts gate }
     ensures { s.new ≡ holding (redirect_all gate edge (table_in s.old counts)) s.old }
@@ -33,6 +35,7 @@ fn redirect_gate(s: &mut [u8], counts: Counts, gate: u16, edge: u16)
     redirect(s, gate as usize, records(counts), gate, edge);
 }
 
+#[tactic(auto, using(crate::proofs::Gate::at_few, crate::proofs::Gate::at_node, crate::proofs::RuleBytes::insert_then_put, crate::proofs::Gate::third_at, crate::proofs::Gate::gate_at), unfolding(rules::specs::Rules::associativity))]
 fn associativity(s: &mut [u8], counts: Counts, gate: u16)
     requires { AtGate s.old counts gate × Room 1 s.old counts }
     ensures { s.new ≡ holding (associativity_rule gate (table_in s.old counts)) s.old }
@@ -43,6 +46,7 @@ fn associativity(s: &mut [u8], counts: Counts, gate: u16)
     put_record(s, gate as usize, associativity_gate(r, h, plain(gate)));
 }
 
+#[tactic(auto, using(crate::proofs::Gate::at_few, crate::proofs::Gate::at_node, crate::proofs::RuleBytes::insert_then_put, crate::proofs::Gate::third_at, crate::proofs::Gate::gate_at), unfolding(rules::specs::Rules::outward))]
 fn outward(s: &mut [u8], counts: Counts, gate: u16)
     requires { AtGate s.old counts gate × Room 2 s.old counts }
     ensures { s.new ≡ holding (outward_rule gate (table_in s.old counts)) s.old }
@@ -63,6 +67,7 @@ fn outward(s: &mut [u8], counts: Counts, gate: u16)
     );
 }
 
+#[tactic(auto, using(crate::proofs::Gate::at_few, crate::proofs::Gate::at_node, crate::proofs::RuleBytes::insert_then_put, crate::proofs::Gate::first_at, crate::proofs::Gate::second_at, crate::proofs::Gate::gate_at), unfolding(rules::specs::Rules::inward))]
 fn inward(s: &mut [u8], counts: Counts, gate: u16)
     requires { AtGate s.old counts gate × Room 1 s.old counts }
     ensures { s.new ≡ holding (inward_rule gate (table_in s.old counts)) s.old }
@@ -74,6 +79,7 @@ fn inward(s: &mut [u8], counts: Counts, gate: u16)
     put_record(s, gate as usize, inward_gate(r, p, plain(gate)));
 }
 
+#[tactic(auto, using(crate::proofs::Gate::at_node, crate::proofs::RuleBytes::redirect_then_put, crate::proofs::Gate::gate_at), unfolding(rules::specs::Rules::inversion))]
 fn inversion(s: &mut [u8], counts: Counts, gate: u16)
     requires { AtGate s.old counts gate }
     ensures { s.new ≡ holding (inversion_rule gate (table_in s.old counts)) s.old }
@@ -84,6 +90,7 @@ fn inversion(s: &mut [u8], counts: Counts, gate: u16)
 }
 
 // Edits by a rule that fits, other than sweep.
+#[tactic(auto, using(crate::proofs::Gate::fit_gate, rules::proofs::AcceptedStep::share_field, crate::proofs::Gate::at_node, rules::proofs::AcceptedStep::voter_field, crate::proofs::Gate::gate_at), unfolding(rules::specs::Step::has_form, rules::specs::Step::rewritten, rules::specs::Rules::majority_rule, rules::specs::Rules::share, rules::specs::Rules::opposite))]
 pub(crate) fn edit(s: &mut [u8], counts: Counts, rule: Rule, gate: u16, a: u16, b: u16)
     requires { Fitting s.old counts rule gate a b × (is_sweep rule ≡ false) }
     ensures { s.new ≡ holding (rewritten counts.inputs (table_in s.old counts) rule gate a b) s.old }

@@ -19,6 +19,7 @@ use majority::{Counts, flipped, node};
 use rules::{Named, Rule, Step, inserted, is_inversion, is_sweep, rule_of};
 
 // Puts the edge to each gate into its place.
+#[tactic(auto, using(tables::proofs::InPlaces::places_none, tables::proofs::InPlaces::places_length, tables::proofs::InPlaces::places_turn))]
 pub(crate) fn start(places: &mut [u16], inputs: usize, gates: usize)
     requires { (inputs + gates ≤ 1056) × (gates ≤ length places.old) }
     ensures { places.new ≡ first_places inputs gates places.old }
@@ -31,6 +32,7 @@ pub(crate) fn start(places: &mut [u16], inputs: usize, gates: usize)
 }
 
 // What becomes of an edge where `more` gates are put before the gate, or where the gate is inverted.
+#[tactic(auto, unfolding(crate::specs::inner::Places::edited_edge))]
 fn edited(gate: u16, more: u16, inverts: bool, edge: u16) -> u16
     requires { (more ≤ 1024) × (node_of edge ≤ 1056) }
     ensures { result ≡ edited_edge gate more inverts edge }
@@ -45,6 +47,7 @@ fn edited(gate: u16, more: u16, inverts: bool, edge: u16) -> u16
 }
 
 // The same of the first places. Most rules leave them all.
+#[tactic(auto, using(majority::proofs::Logic::both, tables::proofs::InPlaces::places_still, crate::proofs::FollowedPlaces::edited_none, tables::proofs::InPlaces::places_none, tables::proofs::InPlaces::places_length, tables::proofs::InPlaces::place_left, tables::proofs::InPlaces::places_turn))]
 fn edit_places(places: &mut [u16], followed: usize, gate: u16, more: u16, inverts: bool)
     requires { (more ≤ 1024) × Places 0 1056 followed places.old }
     ensures { places.new ≡ in_places (λ g e. edited_edge gate more inverts e) 0 followed places.old }
@@ -60,6 +63,7 @@ fn edit_places(places: &mut [u16], followed: usize, gate: u16, more: u16, invert
 }
 
 // What becomes of an edge where the gates that stay close up, numbered so.
+#[tactic(auto, unfolding(crate::specs::inner::Places::left_by))]
 fn left(numbers: &[u16; 1057], edge: u16) -> u16
     requires { (node_of edge < 1057) × Lower numbers.now }
     ensures { result ≡ left_by numbers.now edge }
@@ -71,6 +75,7 @@ fn left(numbers: &[u16; 1057], edge: u16) -> u16
 }
 
 // The same of the first places.
+#[tactic(auto, using(tables::proofs::InPlaces::places_none, tables::proofs::InPlaces::places_length, tables::proofs::InPlaces::place_left, tables::proofs::InPlaces::places_turn))]
 fn sweep_places(places: &mut [u16], followed: usize, numbers: &[u16; 1057])
     requires { Lower numbers.now × Places 0 1056 followed places.old }
     ensures { places.new ≡ in_places (λ g e. left_by numbers.now e) 0 followed places.old }
@@ -83,6 +88,7 @@ fn sweep_places(places: &mut [u16], followed: usize, numbers: &[u16; 1057])
 }
 
 // Takes a step of a rule that is not sweep.
+#[tactic(auto, using(crate::proofs::FollowedPlaces::few_inserted, tables::proofs::Sound::sound_accepted, crate::proofs::FollowedPlaces::places_within, crate::proofs::FollowedPlaces::edited_places, crate::proofs::FollowedPlaces::past_taken, crate::proofs::FollowedPlaces::past_refused))]
 fn take_edit(
     s: &mut [u8],
     counts: Counts,
@@ -107,6 +113,7 @@ fn take_edit(
 }
 
 // Takes a step of sweep. The gates' new numbers are worked out before, of the table that is swept.
+#[tactic(auto, using(tables::proofs::Sound::fresh, tables::proofs::Sound::sound_accepted, crate::proofs::FollowedPlaces::places_within, crate::proofs::FollowedPlaces::swept_places, crate::proofs::FollowedPlaces::past_taken, crate::proofs::FollowedPlaces::past_refused))]
 fn take_sweep(
     s: &mut [u8],
     counts: Counts,
@@ -132,6 +139,7 @@ fn take_sweep(
 }
 
 // Takes one step on a table that was checked, and with it the first places, where it is taken.
+#[tactic(auto, using(crate::proofs::FollowedPlaces::past_none, crate::proofs::FollowedPlaces::past_unknown))]
 pub(crate) fn take_followed(
     s: &mut [u8],
     counts: Counts,

@@ -11,6 +11,7 @@ use rules::{
 };
 
 // The gate has the rule's form, of a table that was checked and fields that fit. The rules that ask for none are exchange, inversion and sweep.
+#[tactic(auto, using(rules::proofs::AcceptedStep::voter_field, crate::proofs::Gate::at_gate, crate::proofs::Gate::gate_at, crate::proofs::Gate::third_at, crate::proofs::Gate::first_at, crate::proofs::Gate::second_at, rules::proofs::AcceptedStep::share_field, crate::proofs::Gate::node_at), unfolding(rules::specs::Step::has_form))]
 pub(crate) fn has_form(s: &[u8], counts: Counts, rule: Rule, gate: u16, a: u16, b: u16) -> bool
     requires { Sound s.now counts × (fields_fit counts.inputs counts.gates rule gate a b ≡ true) }
     ensures { result ≡ has_form counts.inputs (table_in s.now counts) rule gate a b }

@@ -73,6 +73,7 @@ impl Progress {
 }
 
 // Applies one step to the table in the first used bytes of s.
+#[tactic(auto, using(tables::proofs::AfterCheck::checked_sound, tables::proofs::AfterCheck::checked_length, crate::proofs::Replies::refused_replies, crate::proofs::Replies::refused_leaves))]
 pub fn step(s: &mut [u8], used: usize, step: Step) -> Stepped
     ensures reply { said_step result ≡ step_of s.old used step }
     ensures bytes { s.new ≡ step_bytes s.old used step }
@@ -84,6 +85,7 @@ pub fn step(s: &mut [u8], used: usize, step: Step) -> Stepped
 }
 
 // Takes the steps of a script in order until one is refused. The table is checked once.
+#[tactic(auto, using(crate::proofs::Scripts::script_uneven, tables::proofs::AfterCheck::checked_sound, tables::proofs::AfterCheck::checked_length, crate::proofs::Scripts::script_runs, crate::proofs::Scripts::script_refused))]
 pub fn script(s: &mut [u8], used: usize, steps: &[u8]) -> Progress
     ensures { run_of result s.new ≡ script_run s.old used steps.now }
 {
@@ -101,6 +103,7 @@ pub fn script(s: &mut [u8], used: usize, steps: &[u8]) -> Progress
 
 // Takes the steps of a script as `script` does, and leaves in the place of each gate of the first table the edge that has its first value then, or 0
 // where it was swept away.
+#[tactic(auto, using(crate::proofs::Follows::follow_uneven, crate::proofs::Follows::follow_lacks, tables::proofs::Sound::sound_accepted, tables::proofs::AfterCheck::checked_sound, crate::proofs::FollowedPlaces::places_first, tables::proofs::AfterCheck::checked_length, crate::proofs::Follows::follow_runs, crate::proofs::Follows::follow_refused))]
 pub fn follow(s: &mut [u8], used: usize, steps: &[u8], places: &mut [u16]) -> Progress
     ensures run { run_of result s.new ≡ follow_run s.old used steps.now (length places.old) }
     ensures places { places.new ≡ places_after s.old used steps.now places.old }

@@ -57,6 +57,7 @@ fn counts_at(counts: Counts, used: usize) -> Counts
 }
 
 // Takes the steps until one is refused, and with each the first places.
+#[tactic(auto, using(crate::proofs::ScriptTurns::step_next, crate::proofs::ScriptTurns::turn_on, crate::proofs::SoundAfterStep::sound_next, crate::proofs::SoundAfterStep::step_length, crate::proofs::FollowedPlaces::past_taken, crate::proofs::FollowedPlaces::places_next, crate::proofs::FollowedPlaces::past_length, crate::proofs::ThroughSteps::through_on, crate::proofs::ScriptTurns::steps_end, crate::proofs::ThroughSteps::through_end, crate::proofs::ScriptTurns::turn_off, crate::proofs::ScriptTurns::turn_refused, crate::proofs::ThroughSteps::through_off))]
 pub(crate) fn run(
     s: &mut [u8],
     counts: Counts,
@@ -65,7 +66,7 @@ pub(crate) fn run(
     followed: usize,
 ) -> Progress
     requires { Sound s.old counts × Places counts.inputs counts.gates followed places.old }
-    ensures s_after { run_of result s.new ≡ run_from 0 s.old (used_by counts) (steps_of steps.now) }
+    ensures reply { run_of result s.new ≡ run_from 0 s.old (used_by counts) (steps_of steps.now) }
     ensures places { places.new ≡ through_steps (followed_places counts.inputs followed) s.old (used_by counts) (steps_of steps.now) places.old }
 {
     let mut progress = Progress {

@@ -33,6 +33,7 @@ fn mark_names(marks: &mut [bool; 1057], gate: Record)
 }
 
 // Marks the nodes that outputs name, from the last output down.
+#[tactic(auto, using(crate::proofs::Marks::mark_start, crate::proofs::Marks::read_below, crate::proofs::Marks::mark_output))]
 fn mark_outputs(marks: &mut [bool; 1057], s: &[u8], counts: Counts)
     requires { Sound s.now counts × Fresh false marks.old }
     ensures { Marked (reached_by (table_in s.now counts) (counts.inputs + counts.gates)) marks.new }
@@ -45,6 +46,7 @@ fn mark_outputs(marks: &mut [bool; 1057], s: &[u8], counts: Counts)
 }
 
 // Marks the nodes that marked gates name, from the last gate down: node i is the gate of record i - 1.
+#[tactic(auto, using(tables::proofs::Sound::sound_accepted, crate::proofs::Marks::read_below, crate::proofs::Marks::mark_gate, crate::proofs::Marks::mark_skip, crate::proofs::Marks::mark_end))]
 fn mark_gates(marks: &mut [bool; 1057], s: &[u8], counts: Counts)
     requires { Sound s.now counts × Marked (reached_by (table_in s.now counts) (counts.inputs + counts.gates)) marks.old }
     ensures { Marked (reached (table_in s.now counts)) marks.new }
@@ -68,6 +70,7 @@ fn mark_reached(marks: &mut [bool; 1057], s: &[u8], counts: Counts)
 }
 
 // An input keeps its number.
+#[tactic(auto, using(crate::proofs::NewNumbers::numbered_start, crate::proofs::NewNumbers::numbered_more))]
 fn number_inputs(numbers: &mut [u16; 1057], inputs: usize)
     requires { (inputs ≤ 32) × Fresh 0 numbers.old }
     ensures { Numbered (λ k. k) inputs numbers.new }
@@ -80,6 +83,7 @@ fn number_inputs(numbers: &mut [u16; 1057], inputs: usize)
 }
 
 // The edge with its node's new number.
+#[tactic(auto, unfolding(crate::specs::inner::ClosedUp::renumber_by))]
 pub(crate) fn renumbered(numbers: &[u16; 1057], edge: u16) -> u16
     requires { (node_of edge < 1057) × Lower numbers.now }
     ensures { result ≡ renumber_by numbers.now edge }
@@ -102,6 +106,7 @@ fn renumbered_record(numbers: &[u16; 1057], r: Record) -> Record
 }
 
 // Closes up the marked gates and numbers all of them; answers where the outputs go.
+#[tactic(auto, using(crate::proofs::ClosedGates::close_start, tables::proofs::Sound::sound_accepted, crate::proofs::ClosedGates::close_below, majority::proofs::Formed::below_more, crate::proofs::ClosedGates::close_place, crate::proofs::ClosedGates::close_keep, crate::proofs::ClosedGates::close_drop))]
 fn close_gates(
     s: &mut [u8],
     counts: Counts,
@@ -126,6 +131,7 @@ fn close_gates(
 }
 
 // Moves the outputs down to a place, renumbered.
+#[tactic(auto, using(crate::proofs::MovedOutputs::moved_start, crate::proofs::MovedOutputs::moved_read, crate::proofs::MovedOutputs::moved_next))]
 fn close_outputs(s: &mut [u8], counts: Counts, place: usize, numbers: &[u16; 1057])
     requires { Movable s.old counts place numbers.now }
     ensures { Moved (renumber_by numbers.now) (counts.inputs + counts.gates) place counts.outputs s.old s.new }
@@ -140,6 +146,7 @@ fn close_outputs(s: &mut [u8], counts: Counts, place: usize, numbers: &[u16; 105
 }
 
 // Drops the gates that are not marked and closes up; answers where the outputs begin.
+#[tactic(auto, using(tables::proofs::Sound::sound_accepted, tables::proofs::Sound::fresh, crate::proofs::MovedOutputs::movable, crate::proofs::MovedOutputs::outputs_closed))]
 fn close_up(s: &mut [u8], counts: Counts, marks: &[bool; 1057]) -> usize
     requires { Sound s.old counts × Marked (reached (table_in s.old counts)) marks.now }
     ensures { (result ≡ new_number (table_in s.old counts) (counts.inputs + counts.gates)) × Closed s.old counts (counts.inputs + counts.gates + counts.outputs) s.new }
@@ -152,6 +159,7 @@ fn close_up(s: &mut [u8], counts: Counts, marks: &[bool; 1057]) -> usize
 }
 
 // Numbers the nodes that sweep leaves, as they close up, with 0 for each gate that it drops.
+#[tactic(auto, using(tables::proofs::Sound::fresh, tables::proofs::Sound::sound_accepted, crate::proofs::NewNumbers::number_input, crate::proofs::NumbersLeft::left_inputs, crate::proofs::NewNumbers::number_lower, crate::proofs::ClosedGates::mark_stays, crate::proofs::NumbersLeft::left_kept, crate::proofs::NumbersLeft::left_dropped))]
 pub(crate) fn number_left(numbers: &mut [u16; 1057], s: &[u8], counts: Counts)
     requires { Sound s.now counts × Fresh 0 numbers.old }
     ensures { Numbered (number_left (table_in s.now counts)) (counts.inputs + counts.gates) numbers.new }
@@ -174,6 +182,7 @@ pub(crate) fn number_left(numbers: &mut [u16; 1057], s: &[u8], counts: Counts)
 }
 
 // Drops every gate that no output reaches, closes up and clears what is freed; answers how many gates are left.
+#[tactic(auto, using(tables::proofs::Sound::fresh, crate::proofs::Swept::outputs_begin, rules::proofs::Sweep::left_fewer, tables::proofs::Sound::sound_accepted, crate::proofs::Swept::swept))]
 pub(crate) fn sweep(s: &mut [u8], counts: Counts) -> usize
     requires { Sound s.old counts }
     ensures { Swept s.old counts result s.new }

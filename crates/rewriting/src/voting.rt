@@ -28,6 +28,7 @@ fn edge_to(inverted: bool, k: u16) -> u16
 }
 
 // Nodes a and b are among the record's edges, both inverted or both not.
+#[tactic(auto, unfolding(rules::specs::Voter::pair_in))]
 fn pair_in(inverted: bool, a: u16, b: u16, r: Record) -> bool
     requires { (a ≤ 1057) × (b ≤ 1057) }
     ensures { result ≡ pair_in inverted a b r }
@@ -36,6 +37,7 @@ fn pair_in(inverted: bool, a: u16, b: u16, r: Record) -> bool
 }
 
 // Nodes a and b are among the record's edges in the same polarity. Few records name a at all.
+#[tactic(auto, using(crate::proofs::PairSearch::unnamed_pair), unfolding(rules::specs::Voter::has_pair))]
 fn has_pair(a: u16, b: u16, r: Record) -> bool
     requires { (a ≤ 1057) × (b ≤ 1057) }
     ensures { result ≡ has_pair a b r }
@@ -58,6 +60,7 @@ fn first_above(inputs: usize, a: u16) -> usize
 }
 
 // The lowest gate, at most the given one, that has the pair; one more than the given one where none has.
+#[tactic(auto, using(crate::proofs::Gate::at_small, crate::proofs::Gate::at_node, crate::proofs::PairSearch::without_none, crate::proofs::PairSearch::without_low, crate::proofs::PairSearch::pair_found, crate::proofs::PairSearch::without_then, crate::proofs::PairSearch::without_more, crate::proofs::PairSearch::pair_none))]
 fn pair_gate(s: &[u8], counts: Counts, gate: u16, a: u16, b: u16) -> u16
     requires { AtGate s.now counts gate × (a < b) × (b < gate) }
     ensures { result ≡ pair_gate counts.inputs gate a b (table_in s.now counts) }
@@ -74,6 +77,7 @@ fn pair_gate(s: &[u8], counts: Counts, gate: u16, a: u16, b: u16) -> u16
 }
 
 // The level of node a is not above that of node b.
+#[tactic(auto, using(tables::proofs::Sound::sound_accepted, questions::proofs::Levelled::levels_upto, tables::proofs::Sound::fresh))]
 fn levels_fit(s: &[u8], counts: Counts, a: u16, b: u16) -> bool
     requires { Sound s.now counts × (a < b) × (b ≤ counts.inputs + counts.gates) }
     ensures { result ≡ nat_le (level_of (table_in s.now counts) a) (level_of (table_in s.now counts) b) }
@@ -84,6 +88,7 @@ fn levels_fit(s: &[u8], counts: Counts, a: u16, b: u16) -> bool
 }
 
 // The form that a voter asks for.
+#[tactic(auto, unfolding(rules::specs::Voter::voter_form))]
 pub(crate) fn voter_form(s: &[u8], counts: Counts, gate: u16, a: u16, b: u16) -> bool
     requires { AtGate s.now counts gate × (a < b) × (b < gate) }
     ensures { result ≡ voter_form counts.inputs gate a b (table_in s.now counts) }
@@ -122,6 +127,7 @@ fn copying(inputs: usize, gate: u16, before: usize, from: u16, to: u16) -> Chang
 }
 
 // An edge with what stands for it in the copy.
+#[tactic(auto, unfolding(crate::specs::inner::Copied::replaced_by))]
 fn replaced(copy: Change, edge: u16) -> u16
     ensures { result ≡ replaced_by copy edge }
 {
@@ -135,6 +141,7 @@ fn replaced(copy: Change, edge: u16) -> u16
 }
 
 // By how much an edge rises in the copy: not at all where it names no gate.
+#[tactic(auto, unfolding(crate::specs::inner::Copied::rise_by))]
 fn rise_of(copy: Change, edge: u16) -> u16
     ensures { result ≡ rise_by copy edge }
 {
@@ -142,6 +149,7 @@ fn rise_of(copy: Change, edge: u16) -> u16
 }
 
 // An edge in the copy: what stands for it, and where that names a gate, the copy's own.
+#[tactic(auto, unfolding(crate::specs::inner::Copied::copied_by))]
 fn copied_edge(copy: Change, edge: u16) -> u16
     ensures { result ≡ copied_by copy edge }
 {
@@ -163,6 +171,7 @@ fn copied_record(copy: Change, block: u8, r: Record) -> Record
 }
 
 // Copies the gates up to the given one, from the last down, to the places after `before` inserted gates, all into one block.
+#[tactic(auto, using(crate::proofs::CopiedGates::copying_start, crate::proofs::CopiedGates::copying_next, crate::proofs::CopiedGates::copying_end))]
 fn copy_gates(s: &mut [u8], inputs: usize, gate: u16, before: usize, from: u16, to: u16, block: u8)
     requires { Copyable inputs gate before from s.old }
     ensures { Copied inputs gate before from to block s.old s.new }
@@ -185,6 +194,7 @@ fn copy_gates(s: &mut [u8], inputs: usize, gate: u16, before: usize, from: u16, 
 
 // The copies of a voter are put before the gate, which becomes the majority of their roots. They are made from the last down, so that
 // the gate itself is copied before its place is taken.
+#[tactic(auto, using(crate::proofs::Gate::at_node, crate::proofs::Gate::at_few, crate::proofs::VoterBytes::can_copy, crate::proofs::VoterBytes::found, crate::proofs::VoterBytes::voting_start, crate::proofs::VoterBytes::small_copy, tables::proofs::Put::put_length, crate::proofs::VoterBytes::polarity_read, crate::proofs::Gate::gate_at, crate::proofs::VoterBytes::third_made, crate::proofs::VoterBytes::second_made, crate::proofs::VoterBytes::first_made, crate::proofs::VoterBytes::first_root, crate::proofs::VoterBytes::second_root, crate::proofs::VoterBytes::third_root, crate::proofs::VoterBytes::voter_holding))]
 pub(crate) fn vote(s: &mut [u8], counts: Counts, gate: u16, a: u16, b: u16)
     requires { Votable s.old counts gate a b }
     ensures { s.new ≡ holding (voter_rule counts.inputs gate a b (table_in s.old counts)) s.old }
