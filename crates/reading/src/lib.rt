@@ -107,6 +107,7 @@ struct Found {
 }
 
 // The table that the first used bytes of s hold.
+#[tactic(auto, unfolding(crate::specs::Held::found_in))]
 fn find(s: &[u8], used: usize) -> Found
     ensures { result ≡ found_in s.now used }
 {
