@@ -103,6 +103,7 @@ pub struct Deep {
 
 // Whether the first used bytes hold a table: its counts.
 #[unsafe(no_mangle)]
+#[tactic(auto, using(crate::proofs::Told::told))]
 pub extern "C" fn pulpgarnet_check(table: &[u8], used: usize) -> Checked
     ensures { result ≡ checked_reply (check_of table.now used) }
 {
@@ -126,6 +127,7 @@ pub extern "C" fn pulpgarnet_check(table: &[u8], used: usize) -> Checked
     }
 }
 
+#[tactic(auto, using(crate::proofs::Told::told))]
 fn value_reply(answer: questions::Valued) -> Valued
     ensures { result ≡ valued_reply (said_value answer) }
 {
@@ -153,6 +155,7 @@ pub extern "C" fn pulpgarnet_evaluate(table: &[u8], used: usize, assignment: u32
     value_reply(questions::evaluate(table, used, assignment))
 }
 
+#[tactic(auto, using(crate::proofs::Told::told))]
 fn report_reply(answer: questions::Reported) -> Reported
     ensures { result ≡ reported_reply (said_report answer) }
 {
@@ -182,6 +185,7 @@ pub extern "C" fn pulpgarnet_report(table: &[u8], used: usize) -> Reported
     report_reply(questions::report(table, used))
 }
 
+#[tactic(auto, using(crate::proofs::Told::told))]
 fn placed_reply(answer: words::Placed) -> Placed
     ensures { result ≡ placed_reply (said_placed answer) }
 {
@@ -226,6 +230,7 @@ pub extern "C" fn pulpgarnet_totals(table: &[u8], used: usize, places: &mut [u64
 
 // One step: the new used length.
 #[unsafe(no_mangle)]
+#[tactic(auto, using(crate::proofs::Told::told))]
 pub extern "C" fn pulpgarnet_step(
     table: &mut [u8],
     used: usize,
@@ -299,6 +304,7 @@ pub extern "C" fn pulpgarnet_follow(
     ran_reply(rewriting::follow(table, used, steps, places))
 }
 
+#[tactic(auto, using(crate::proofs::Told::told))]
 fn written_reply(answer: rm3::Translated) -> Written
     ensures { result ≡ written_reply (said_translate answer) }
 {
@@ -338,6 +344,7 @@ pub extern "C" fn pulpgarnet_translate_anew(table: &[u8], used: usize, out: &mut
 
 // The depth of the RM3 table.
 #[unsafe(no_mangle)]
+#[tactic(auto, using(crate::proofs::Told::told))]
 pub extern "C" fn pulpgarnet_rm3_depth(table: &[u8], used: usize) -> Deep
     ensures { result ≡ deep_reply (depth_of table.now used) }
 {
@@ -359,6 +366,7 @@ pub extern "C" fn pulpgarnet_rm3_depth(table: &[u8], used: usize) -> Deep
 
 // The network of the function with this number, to the beginning of out: its length.
 #[unsafe(no_mangle)]
+#[tactic(auto, using(crate::proofs::Told::told))]
 pub extern "C" fn pulpgarnet_catalogue(number: u32, out: &mut [u8]) -> Written
     ensures reply { result ≡ written_reply (catalogue_of number (length out.old)) }
     ensures bytes { out.new ≡ catalogue_bytes number out.old }
