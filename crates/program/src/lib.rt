@@ -7,12 +7,18 @@ mod writes;
 
 ghost use Rattle.io.specs.Counts.{IsPrefixLen};
 
-use libc::{STDERR_FILENO, STDIN_FILENO, STDOUT_FILENO};
-pub use reads::{Got, read_whole};
+pub use reads::{Got, error_number, read_whole};
 use reasons::reason;
+pub use reasons::{EBADF, EILSEQ};
 use refusals::Refusal;
+use std::env::{Env, FillError};
 use text::{Decimal, Line};
 pub use writes::write_whole;
+
+// The numbers of standard output and standard error.
+pub const STDOUT_FILENO: i32 = 1;
+
+pub const STDERR_FILENO: i32 = 2;
 
 // How a program ends: what it was asked was accepted and its answer is written whole; or it was refused, stopped or too long; or the program
 // was called wrongly, or its input or output failed.
@@ -25,7 +31,8 @@ pub enum End {
 
 // A program as it was called: its name, the file that its status goes to, below 0 for none, and which of its arguments is the first of its own.
 #[derive(Clone, Copy)]
-pub struct Program {
+pub struct Program<'a> {
+    rt: &'a HostRuntime,
     name: Line,
     status: i32,
     first: usize,
@@ -62,42 +69,59 @@ fn file_named(text: &[u8]) -> i32 {
     }
 }
 
+// Puts argument i at the start of the buffer, and answers its length, 0 where there is none or the buffer is shorter.
+fn argument_at(rt: &HostRuntime, i: usize, buffer: &mut [u8]) -> usize
+    ensures { IsPrefixLen result buffer.new }
+{
+    match rt.arg(i, buffer) {
+        Ok(n) => n,
+        Err(_) => 0,
+    }
+}
+
 // The file that the first argument asks the status to be written to, or -1. No program has another use for such an argument.
-fn status_file() -> i32 {
+fn status_file(rt: &HostRuntime) -> i32 {
     let mut word = io::buffer();
-    let len = os::arg(1, &mut word);
+    let len = argument_at(rt, 1, &mut word);
     file_named(&word[..len])
 }
 
 // Writes the text of a line to a file, and answers whether all of it was written.
-pub fn write_line(fd: i32, line: Line) -> bool {
+pub fn write_line(rt: &HostRuntime, fd: i32, line: Line) -> bool {
     let bytes = line.bytes();
     let len = line.length();
     let whole: &[u8; text::WIDTH] = &bytes;
     let text: &[u8] = whole;
     if len < text.len() {
-        return write_whole(fd, &text[..len]);
+        return write_whole(rt, fd, &text[..len]);
     }
-    write_whole(fd, text)
+    write_whole(rt, fd, text)
 }
 
-impl Program {
+impl<'a> Program<'a> {
     // The program of this name, as it was called.
-    pub fn begun(name: &[u8]) -> Program {
+    pub fn begun(rt: &'a HostRuntime, name: &[u8]) -> Program<'a> {
         let name = Line::empty().word(name);
-        let status = status_file();
+        let status = status_file(rt);
         if status < 0 {
             return Program {
+                rt,
                 name,
                 status,
                 first: 1,
             };
         }
         Program {
+            rt,
             name,
             status,
             first: 2,
         }
+    }
+
+    // What the program reads and writes with.
+    pub fn rt(self) -> &'a HostRuntime {
+        self.rt
     }
 
     // Writes the status where it was asked for: the program's last word.
@@ -106,9 +130,9 @@ impl Program {
             return;
         }
         match end {
-            End::Accepted => write_whole(self.status, b"0"),
-            End::Refused => write_whole(self.status, b"1"),
-            End::Failed => write_whole(self.status, b"2"),
+            End::Accepted => write_whole(self.rt, self.status, b"0"),
+            End::Refused => write_whole(self.rt, self.status, b"1"),
+            End::Failed => write_whole(self.rt, self.status, b"2"),
         };
     }
 
@@ -116,7 +140,7 @@ impl Program {
     pub fn argument(self, buffer: &mut [u8]) -> usize
         ensures { IsPrefixLen result buffer.new }
     {
-        os::arg(self.first, buffer)
+        argument_at(self.rt, self.first, buffer)
     }
 
     // A line that begins with the program's name.
@@ -127,7 +151,7 @@ impl Program {
 
     // Says on standard error what went wrong.
     pub fn failed(self, line: Line) -> End {
-        write_line(STDERR_FILENO, line.word(b"\n"));
+        write_line(self.rt, STDERR_FILENO, line.word(b"\n"));
         End::Failed
     }
 
@@ -146,7 +170,7 @@ impl Program {
 
     // Ends the line and writes it to standard output or standard error.
     pub fn put(self, file: i32, line: Line, end: End) -> End {
-        self.written(write_line(file, line.word(b"\n")), end)
+        self.written(write_line(self.rt, file, line.word(b"\n")), end)
     }
 
     // Says which refusal was met.
@@ -164,15 +188,15 @@ impl Program {
 
     // Says why a file could not be read, and how the program is called.
     pub fn unread_file(self, what: &[u8], path: &[u8], error: i32, usage: &[u8]) -> End {
-        write_line(STDERR_FILENO, self.line().word(what).word(b" "));
-        show_path(path);
+        write_line(self.rt, STDERR_FILENO, self.line().word(what).word(b" "));
+        show_path(self.rt, path);
         let why = reason(Line::empty().word(b" could not be read: "), error);
         self.failed(why.word(b"; call it as: ").word(usage))
     }
 
     // Reads a table from standard input. Where there are more bytes than a table may have, says so to a file.
     pub fn read_table(self, buffer: &mut [u8; MOST_BYTES], file: i32) -> Input {
-        match read_whole(STDIN_FILENO, buffer) {
+        match read_whole(&mut self.rt.stdin(), buffer) {
             Got::Bytes(n) => {
                 if n < MOST_BYTES {
                     return Input::Table(n);
@@ -186,7 +210,7 @@ impl Program {
     // The same after n bytes, the most that a table has: a byte more shows that the input is longer.
     fn at_most(self, n: usize, file: i32) -> Input {
         let mut past = [0u8; 1];
-        match read_whole(STDIN_FILENO, &mut past) {
+        match read_whole(&mut self.rt.stdin(), &mut past) {
             Got::Bytes(more) => {
                 if more < 1 {
                     return Input::Table(n);
@@ -199,26 +223,30 @@ impl Program {
 
     // How many arguments of its own the program has.
     pub fn arguments(self) -> usize {
-        let count = os::arg_count();
-        if count < self.first {
-            return 0;
+        let mut none = [0u8; 1];
+        for i in self.first..usize::MAX {
+            match self.rt.arg(i, &mut none) {
+                Err(FillError::NotPresent) => return i - self.first,
+                _ => {}
+            }
         }
-        count - self.first
+        0
     }
 
     // Its only argument is --help.
     fn asked_for_help(self) -> bool {
         let mut word = io::buffer();
-        let len = os::arg(self.first, &mut word);
+        let len = argument_at(self.rt, self.first, &mut word);
         (self.arguments() == 1) & check::same(&word[..len], b"--help")
     }
 
     // Prints how the program is called, what it does, and its statuses.
     fn help(self, usage: &[u8], text: &[u8]) -> End {
-        let whole = write_whole(STDOUT_FILENO, usage)
-            && write_whole(STDOUT_FILENO, b"\n\n")
-            && write_whole(STDOUT_FILENO, text)
+        let whole = write_whole(self.rt, STDOUT_FILENO, usage)
+            && write_whole(self.rt, STDOUT_FILENO, b"\n\n")
+            && write_whole(self.rt, STDOUT_FILENO, text)
             && write_whole(
+                self.rt,
                 STDOUT_FILENO,
                 b"Status, by run and by what install puts elsewhere: 0 accepted and written whole; 1 refused, stopped or too long;\n2 bad usage, or input or output that failed.\n",
             );
@@ -270,10 +298,10 @@ fn plain(byte: u8) -> u8 {
 }
 
 // Writes a path to standard error, each byte plain.
-fn show_path(path: &[u8]) {
+fn show_path(rt: &HostRuntime, path: &[u8]) {
     let mut i = 0;
     while i < path.len() {
-        write_whole(STDERR_FILENO, &[plain(path[i])]);
+        write_whole(rt, STDERR_FILENO, &[plain(path[i])]);
         i += 1;
     }
 }

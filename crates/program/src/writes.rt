@@ -1,51 +1,24 @@
 // Writing all of some bytes.
-ghost use Rattle.program.specs.inner.Moved.{MovedWithin};
-ghost use Rattle.std.specs.Prelude.{length};
+use crate::{STDERR_FILENO, STDOUT_FILENO};
+use std::fs::OpenOptions;
+use std::io;
+use std::io::Write;
 
-// What one call of read or write did: it moved so many bytes, or none; it is to be made again, since a signal came between; or it failed.
-#[derive(Clone, Copy)]
-pub(crate) enum Moved {
-    Bytes(usize),
-    Nothing,
-    Again,
-    Failed(i32),
-}
-
-// What a call did that was lent these bytes and answered got.
-pub(crate) fn outcome(got: isize, bytes: &[u8]) -> Moved
-    ensures { MovedWithin result (length bytes.now) }
-{
-    if got > 0 {
-        return Moved::Bytes(io::count(got, bytes));
-    }
-    if got == 0 {
-        return Moved::Nothing;
-    }
-    let error = os::errno();
-    if error == libc::EINTR {
-        return Moved::Again;
-    }
-    Moved::Failed(error)
+// The file that is open under this number, where it is no standard one: what is written stands at its end.
+fn write_numbered(rt: &HostRuntime, fd: i32, bytes: &[u8]) -> io::Result<()> {
+    let path = format!(in rt.alloc(); "/dev/fd/{fd}")?;
+    let mut file = OpenOptions::new().append(true).open(rt, &path)?;
+    file.write_all(bytes)
 }
 
 // Writes all of the bytes and answers true, or stops at the first write that fails or takes nothing. A write that a signal came between
 // is tried again.
-pub fn write_whole(fd: i32, bytes: &[u8]) -> bool {
-    let mut done = 0;
-    let mut turns = u64::MAX;
-    while turns > 0 {
-        if bytes.len() <= done {
-            return true;
-        }
-        turns -= 1;
-        let rest = &bytes[done..];
-        match outcome(libc::write(fd, rest), rest) {
-            Moved::Bytes(n) => {
-                done += n;
-            }
-            Moved::Again => {}
-            _ => return false,
-        }
+pub fn write_whole(rt: &HostRuntime, fd: i32, bytes: &[u8]) -> bool {
+    if fd == STDOUT_FILENO {
+        return rt.stdout().write_all(bytes).is_ok();
     }
-    false
+    if fd == STDERR_FILENO {
+        return rt.stderr().write_all(bytes).is_ok();
+    }
+    write_numbered(rt, fd, bytes).is_ok()
 }
