@@ -3,9 +3,8 @@
 
 ghost use Rattle.std.specs.Prelude.{◌≤◌};
 
-use libc::STDOUT_FILENO;
 use majority::{Counts, Record};
-use program::{End, Input, Program};
+use program::{End, Input, Program, STDOUT_FILENO};
 use rm3::{Depth, Translated};
 use tables::Checked;
 use text::Line;
@@ -40,13 +39,13 @@ fn shown(r: Record, number: usize) -> Line {
 }
 
 // Lists the records behind the inputs, until a line cannot be written; record i, an operation, is operand i + 2.
-fn list(program: Program, out: &[u8; rm3::MOST_BYTES], inputs: usize, records: usize) -> End
+fn list(program: Program<'_>, out: &[u8; rm3::MOST_BYTES], inputs: usize, records: usize) -> End
     requires { records ≤ 3168 }
 {
     let mut i = inputs;
     while i < records {
         let line = shown(tables::record_at(out, i), i + 2).word(b"\n");
-        if !program::write_line(STDOUT_FILENO, line) {
+        if !program::write_line(program.rt(), STDOUT_FILENO, line) {
             return program.written(false, End::Accepted);
         }
         i += 1;
@@ -56,7 +55,7 @@ fn list(program: Program, out: &[u8; rm3::MOST_BYTES], inputs: usize, records: u
 
 // Prints the first line, and lists what follows it.
 fn listed(
-    program: Program,
+    program: Program<'_>,
     first: Line,
     out: &[u8; rm3::MOST_BYTES],
     inputs: usize,
@@ -72,7 +71,7 @@ fn listed(
 
 // Lists the RM3 table of the first used bytes, which are the table. Where the check accepts it, no later call refuses it: the buffer holds
 // any RM3 table. What each would say is said all the same.
-fn answer(program: Program, mode: Mode, table: &[u8; program::MOST_BYTES], used: usize) -> End {
+fn answer(program: Program<'_>, mode: Mode, table: &[u8; program::MOST_BYTES], used: usize) -> End {
     let mut out = [0u8; rm3::MOST_BYTES];
     match tables::check(table, used) {
         Checked::Accepted(c) => match rm3::translate(mode, table, used, &mut out) {
@@ -91,7 +90,7 @@ fn answer(program: Program, mode: Mode, table: &[u8; program::MOST_BYTES], used:
 }
 
 // Lists the RM3 table, in this mode, of the table on standard input, or prints the refusal that it meets.
-pub fn run(program: Program, mode: Mode) -> End {
+pub fn run(program: Program<'_>, mode: Mode) -> End {
     let mut table = [0u8; program::MOST_BYTES];
     match program.read_table(&mut table, STDOUT_FILENO) {
         Input::Table(used) => answer(program, mode, &table, used),

@@ -2,12 +2,11 @@
 #![tactic(auto)]
 
 use catalogue::Catalogued;
-use libc::STDOUT_FILENO;
-use program::{Called, End, Program};
+use program::{Called, End, Program, STDOUT_FILENO};
 use text::Decimal;
 
 // The argument is no number of a function.
-fn misused(program: Program) -> End {
+fn misused(program: Program<'_>) -> End {
     program.misused(
         b"the number is no decimal number from 0 to 255",
         b"majcatalogue NUMBER > TABLE",
@@ -15,18 +14,18 @@ fn misused(program: Program) -> End {
 }
 
 // Writes the table. There is room for any, so that nothing but a number that is no function's is refused.
-fn answer(program: Program, number: u32) -> End {
+fn answer(program: Program<'_>, number: u32) -> End {
     let mut out = [0u8; catalogue::MOST_BYTES];
     match catalogue::catalogue(number, &mut out) {
         Catalogued::Length(length) => program.written(
-            program::write_whole(STDOUT_FILENO, &out[..length]),
+            program::write_whole(program.rt(), STDOUT_FILENO, &out[..length]),
             End::Accepted,
         ),
         Catalogued::Refused(_) => misused(program),
     }
 }
 
-fn run(program: Program) -> End {
+fn run(program: Program<'_>) -> End {
     let mut word = io::large_buffer();
     let len = program.argument(&mut word);
     match text::number_of(&word[..len]) {
@@ -35,8 +34,8 @@ fn run(program: Program) -> End {
     }
 }
 
-fn main() {
-    let program = Program::begun(b"majcatalogue");
+fn main(rt: HostRuntime) {
+    let program = Program::begun(&rt, b"majcatalogue");
     match program.called(
         1,
         b"the number is missing",

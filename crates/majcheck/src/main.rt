@@ -1,9 +1,8 @@
 // Checks the table on standard input: prints its counts, or the refusal that it meets.
 #![tactic(auto)]
 
-use libc::STDOUT_FILENO;
 use majority::Counts;
-use program::{Called, End, Input, Program};
+use program::{Called, End, Input, Program, STDOUT_FILENO};
 use tables::Checked;
 use text::Line;
 
@@ -19,14 +18,14 @@ fn counted(c: Counts) -> Line {
 }
 
 // Checks the first used bytes, which are the table.
-fn answer(program: Program, table: &[u8; program::MOST_BYTES], used: usize) -> End {
+fn answer(program: Program<'_>, table: &[u8; program::MOST_BYTES], used: usize) -> End {
     match tables::check(table, used) {
         Checked::Accepted(c) => program.put(STDOUT_FILENO, counted(c), End::Accepted),
         Checked::Refused(r) => program.refused(STDOUT_FILENO, r),
     }
 }
 
-fn run(program: Program) -> End {
+fn run(program: Program<'_>) -> End {
     let mut table = [0u8; program::MOST_BYTES];
     match program.read_table(&mut table, STDOUT_FILENO) {
         Input::Table(used) => answer(program, &table, used),
@@ -34,8 +33,8 @@ fn run(program: Program) -> End {
     }
 }
 
-fn main() {
-    let program = Program::begun(b"majcheck");
+fn main(rt: HostRuntime) {
+    let program = Program::begun(&rt, b"majcheck");
     match program.called(
         0,
         b"",

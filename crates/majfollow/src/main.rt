@@ -4,9 +4,8 @@
 
 ghost use Rattle.std.specs.Prelude.{◌≤◌};
 
-use libc::{STDERR_FILENO, STDOUT_FILENO};
 use majority::{MOST_GATES, MOST_INPUTS};
-use program::{Called, End, Input, Program};
+use program::{Called, End, Input, Program, STDERR_FILENO, STDOUT_FILENO};
 use scripts::Script;
 use tables::Checked;
 use text::Line;
@@ -28,7 +27,7 @@ fn shown(gate: usize, edge: u16) -> Line {
 }
 
 // Shows the gates after so many inputs, each by its place, until a place was not written or a line cannot be; answers whether all were written.
-fn show(places: &[u16; MOST_GATES], inputs: usize) -> bool
+fn show(rt: &HostRuntime, places: &[u16; MOST_GATES], inputs: usize) -> bool
     requires { inputs ≤ 32 }
 {
     let mut i: usize = 0;
@@ -39,7 +38,7 @@ fn show(places: &[u16; MOST_GATES], inputs: usize) -> bool
         }
         i += 1;
         let line = shown(inputs + i, edge).word(b"\n");
-        if !program::write_line(STDOUT_FILENO, line) {
+        if !program::write_line(rt, STDOUT_FILENO, line) {
             return false;
         }
     }
@@ -63,7 +62,7 @@ fn inputs_of(checked: Checked) -> usize
 
 // Follows the gates of the table, which is the first used bytes.
 fn answer(
-    program: Program,
+    program: Program<'_>,
     table: &mut [u8; program::MOST_BYTES],
     used: usize,
     script: &[u8],
@@ -71,7 +70,7 @@ fn answer(
     let inputs = inputs_of(tables::check(table, used));
     let mut places = [UNWRITTEN; MOST_GATES];
     let progress = rewriting::follow(table, used, script, &mut places);
-    if !show(&places, inputs) {
+    if !show(program.rt(), &places, inputs) {
         return program.written(false, End::Accepted);
     }
     let ending = progress.ending;
@@ -83,7 +82,7 @@ fn answer(
 }
 
 // Reads the table, and runs the script on it.
-fn on_table(program: Program, script: &[u8]) -> End {
+fn on_table(program: Program<'_>, script: &[u8]) -> End {
     let mut table = [0u8; program::MOST_BYTES];
     match program.read_table(&mut table, STDOUT_FILENO) {
         Input::Table(used) => answer(program, &mut table, used, script),
@@ -92,7 +91,7 @@ fn on_table(program: Program, script: &[u8]) -> End {
 }
 
 // Reads the script, and runs it.
-fn run(program: Program) -> End {
+fn run(program: Program<'_>) -> End {
     let mut buffer = [0u8; scripts::ROOM];
     match scripts::read_script(program, &mut buffer, b"majfollow SCRIPT < TABLE") {
         Script::Bytes(n) => on_table(program, &buffer[..n]),
@@ -100,8 +99,8 @@ fn run(program: Program) -> End {
     }
 }
 
-fn main() {
-    let program = Program::begun(b"majfollow");
+fn main(rt: HostRuntime) {
+    let program = Program::begun(&rt, b"majfollow");
     match program.called(
         1,
         b"the script's file is missing",

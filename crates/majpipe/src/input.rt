@@ -1,7 +1,6 @@
 // What a request is read by. Nothing here reads a byte past the one that is asked for.
 ghost use Rattle.majpipe.specs.inner.Part.{Within};
 
-use libc::STDIN_FILENO;
 use majority::Counts;
 use program::{Got, read_whole};
 
@@ -45,9 +44,9 @@ pub enum Part {
 }
 
 // One byte.
-pub fn read_operation() -> Start {
+pub fn read_operation(rt: &HostRuntime) -> Start {
     let mut byte = [0u8; 1];
-    match read_whole(STDIN_FILENO, &mut byte) {
+    match read_whole(&mut rt.stdin(), &mut byte) {
         Got::Bytes(n) => {
             if n < 1 {
                 return Start::End;
@@ -59,9 +58,9 @@ pub fn read_operation() -> Start {
 }
 
 // Four bytes, the low one first.
-pub fn read_number() -> Word {
+pub fn read_number(rt: &HostRuntime) -> Word {
     let mut bytes = [0u8; 4];
-    match read_whole(STDIN_FILENO, &mut bytes) {
+    match read_whole(&mut rt.stdin(), &mut bytes) {
         Got::Bytes(n) => {
             if n < 4 {
                 return Word::Not(Fault::Cut);
@@ -80,23 +79,23 @@ fn wide(byte: u8) -> u32 {
 }
 
 // The three counts of a reading.
-pub fn read_counts() -> Claim {
-    match read_number() {
-        Word::Number(inputs) => read_gates(inputs),
+pub fn read_counts(rt: &HostRuntime) -> Claim {
+    match read_number(rt) {
+        Word::Number(inputs) => read_gates(rt, inputs),
         Word::Not(fault) => Claim::Not(fault),
     }
 }
 
 // The other two.
-fn read_gates(inputs: u32) -> Claim {
-    match read_number() {
-        Word::Number(gates) => read_outputs(inputs, gates),
+fn read_gates(rt: &HostRuntime, inputs: u32) -> Claim {
+    match read_number(rt) {
+        Word::Number(gates) => read_outputs(rt, inputs, gates),
         Word::Not(fault) => Claim::Not(fault),
     }
 }
 
-fn read_outputs(inputs: u32, gates: u32) -> Claim {
-    match read_number() {
+fn read_outputs(rt: &HostRuntime, inputs: u32, gates: u32) -> Claim {
+    match read_number(rt) {
         Word::Number(outputs) => Claim::Counted(Counts {
             inputs: inputs as usize,
             gates: gates as usize,
@@ -107,14 +106,14 @@ fn read_outputs(inputs: u32, gates: u32) -> Claim {
 }
 
 // So many bytes, to the start of the buffer.
-pub fn read_bytes(buffer: &mut [u8], length: u32) -> Part
+pub fn read_bytes(rt: &HostRuntime, buffer: &mut [u8], length: u32) -> Part
     ensures { Within result buffer.new }
 {
     let n = length as usize;
     if buffer.len() < n {
         return Part::Not(Fault::TooLong(length));
     }
-    match read_whole(STDIN_FILENO, &mut buffer[..n]) {
+    match read_whole(&mut rt.stdin(), &mut buffer[..n]) {
         Got::Bytes(got) => {
             if got < n {
                 return Part::Not(Fault::Cut);
@@ -126,11 +125,11 @@ pub fn read_bytes(buffer: &mut [u8], length: u32) -> Part
 }
 
 // A length, and then so many bytes, which go to the start of the buffer. A part may be as long as the buffer.
-pub fn read_part(buffer: &mut [u8]) -> Part
+pub fn read_part(rt: &HostRuntime, buffer: &mut [u8]) -> Part
     ensures { Within result buffer.new }
 {
-    match read_number() {
-        Word::Number(length) => read_bytes(buffer, length),
+    match read_number(rt) {
+        Word::Number(length) => read_bytes(rt, buffer, length),
         Word::Not(fault) => Part::Not(fault),
     }
 }

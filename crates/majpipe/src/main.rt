@@ -9,10 +9,9 @@ ghost use Rattle.std.specs.Prelude.{◌≤◌, length};
 
 use catalogue::Catalogued;
 use input::{Claim, Fault, Part, Start, Word};
-use libc::STDOUT_FILENO;
 use majority::Counts;
 use places::{MOST_BYTES, MOST_PLACES};
-use program::{Called, End, Program};
+use program::{Called, End, Program, STDOUT_FILENO};
 use questions::{Reported, Valued};
 use reply::Reply;
 use rewriting::{Ending, Progress, Stepped};
@@ -37,26 +36,26 @@ enum Outcome {
 }
 
 // What becomes of a request whose reply is this.
-fn sent(reply: Reply) -> Outcome {
-    if reply.write() {
+fn sent(rt: &HostRuntime, reply: Reply) -> Outcome {
+    if reply.write(rt) {
         return Outcome::Answered;
     }
     Outcome::Unwritten
 }
 
 // The same, where every byte of a buffer follows the reply.
-fn sent_with(reply: Reply, bytes: &[u8]) -> Outcome {
-    if reply.write() && program::write_whole(STDOUT_FILENO, bytes) {
+fn sent_with(rt: &HostRuntime, reply: Reply, bytes: &[u8]) -> Outcome {
+    if reply.write(rt) && program::write_whole(rt, STDOUT_FILENO, bytes) {
         return Outcome::Answered;
     }
     Outcome::Unwritten
 }
 
 // The same, where so many bytes of places follow, with no byte before them where no buffer was changed.
-fn sent_with_places(reply: Reply, table: &[u8], bytes: &[u8], length: usize) -> Outcome {
-    if reply.write()
-        && program::write_whole(STDOUT_FILENO, table)
-        && places::write_first(bytes, length)
+fn sent_with_places(rt: &HostRuntime, reply: Reply, table: &[u8], bytes: &[u8], length: usize) -> Outcome {
+    if reply.write(rt)
+        && program::write_whole(rt, STDOUT_FILENO, table)
+        && places::write_first(rt, bytes, length)
     {
         return Outcome::Answered;
     }
@@ -64,45 +63,45 @@ fn sent_with_places(reply: Reply, table: &[u8], bytes: &[u8], length: usize) -> 
 }
 
 // Operation 1: the counts.
-fn check(table: &[u8], used: usize) -> Outcome {
+fn check(rt: &HostRuntime, table: &[u8], used: usize) -> Outcome {
     match tables::check(table, used) {
-        Checked::Accepted(c) => sent(
+        Checked::Accepted(c) => sent(rt, 
             Reply::accepted()
                 .number(c.inputs)
                 .number(c.gates)
                 .number(c.outputs),
         ),
-        Checked::Refused(r) => sent(Reply::refused(r).number(0).number(0).number(0)),
+        Checked::Refused(r) => sent(rt, Reply::refused(r).number(0).number(0).number(0)),
     }
 }
 
 // The outputs' number.
-fn valued(answer: Valued) -> Outcome {
+fn valued(rt: &HostRuntime, answer: Valued) -> Outcome {
     match answer {
-        Valued::Outputs(v) => sent(Reply::accepted().number(v as usize)),
-        Valued::Refused(r) => sent(Reply::refused(r).number(0)),
+        Valued::Outputs(v) => sent(rt, Reply::accepted().number(v as usize)),
+        Valued::Refused(r) => sent(rt, Reply::refused(r).number(0)),
     }
 }
 
 // Operation 2: the outputs' number under the assignment, which is read here.
-fn evaluate(table: &[u8], used: usize) -> Outcome {
-    match input::read_number() {
-        Word::Number(assignment) => valued(questions::evaluate(table, used, assignment)),
+fn evaluate(rt: &HostRuntime, table: &[u8], used: usize) -> Outcome {
+    match input::read_number(rt) {
+        Word::Number(assignment) => valued(rt, questions::evaluate(table, used, assignment)),
         Word::Not(fault) => Outcome::Not(fault),
     }
 }
 
 // Size and depth.
-fn reported(answer: Reported) -> Outcome {
+fn reported(rt: &HostRuntime, answer: Reported) -> Outcome {
     match answer {
-        Reported::Whole(s) => sent(Reply::accepted().number(s.gates).number(s.depth)),
-        Reported::Refused(r) => sent(Reply::refused(r).number(0).number(0)),
+        Reported::Whole(s) => sent(rt, Reply::accepted().number(s.gates).number(s.depth)),
+        Reported::Refused(r) => sent(rt, Reply::refused(r).number(0).number(0)),
     }
 }
 
 // Operation 3: size and depth.
-fn report(table: &[u8], used: usize) -> Outcome {
-    reported(questions::report(table, used))
+fn report(rt: &HostRuntime, table: &[u8], used: usize) -> Outcome {
+    reported(rt, questions::report(table, used))
 }
 
 // The two 16-bit numbers of a 32-bit one.
@@ -115,7 +114,7 @@ fn high_half(n: u32) -> u16 {
 }
 
 // One step of these numbers, the low half of each 32 bits first; then the table as the step left it.
-fn stepped(table: &mut [u8], used: usize, rule_gate: u32, a_b: u32) -> Outcome {
+fn stepped(rt: &HostRuntime, table: &mut [u8], used: usize, rule_gate: u32, a_b: u32) -> Outcome {
     let step = Step {
         rule: low_half(rule_gate),
         gate: high_half(rule_gate),
@@ -123,23 +122,23 @@ fn stepped(table: &mut [u8], used: usize, rule_gate: u32, a_b: u32) -> Outcome {
         b: high_half(a_b),
     };
     match rewriting::step(table, used, step) {
-        Stepped::Used(n) => sent_with(Reply::accepted().number(n), table),
-        Stepped::Refused(r) => sent_with(Reply::refused(r).number(0), table),
+        Stepped::Used(n) => sent_with(rt, Reply::accepted().number(n), table),
+        Stepped::Refused(r) => sent_with(rt, Reply::refused(r).number(0), table),
     }
 }
 
 // The same, where a and b are still to be read.
-fn step_of(table: &mut [u8], used: usize, rule_gate: u32) -> Outcome {
-    match input::read_number() {
-        Word::Number(a_b) => stepped(table, used, rule_gate, a_b),
+fn step_of(rt: &HostRuntime, table: &mut [u8], used: usize, rule_gate: u32) -> Outcome {
+    match input::read_number(rt) {
+        Word::Number(a_b) => stepped(rt, table, used, rule_gate, a_b),
         Word::Not(fault) => Outcome::Not(fault),
     }
 }
 
 // Operation 4: one step, whose four numbers are read here.
-fn step(table: &mut [u8], used: usize) -> Outcome {
-    match input::read_number() {
-        Word::Number(rule_gate) => step_of(table, used, rule_gate),
+fn step(rt: &HostRuntime, table: &mut [u8], used: usize) -> Outcome {
+    match input::read_number(rt) {
+        Word::Number(rule_gate) => step_of(rt, table, used, rule_gate),
         Word::Not(fault) => Outcome::Not(fault),
     }
 }
@@ -154,41 +153,41 @@ fn ran(done: Progress) -> Reply {
 }
 
 // The reply of a script, and then the table as it left it.
-fn run(table: &mut [u8], used: usize, steps: &[u8]) -> Outcome {
+fn run(rt: &HostRuntime, table: &mut [u8], used: usize, steps: &[u8]) -> Outcome {
     let done = rewriting::script(table, used, steps);
-    sent_with(ran(done), table)
+    sent_with(rt, ran(done), table)
 }
 
 // Operation 5: a script, which is read here.
-fn script(table: &mut [u8], used: usize) -> Outcome {
+fn script(rt: &HostRuntime, table: &mut [u8], used: usize) -> Outcome {
     let mut buffer = io::large_buffer();
-    match input::read_part(&mut buffer) {
-        Part::Bytes(n) => run(table, used, &buffer[..n]),
+    match input::read_part(rt, &mut buffer) {
+        Part::Bytes(n) => run(rt, table, used, &buffer[..n]),
         Part::Not(fault) => Outcome::Not(fault),
     }
 }
 
 // The length of the RM3 table in a mode, and the buffer that it is written to.
-fn translate_to(mode: Mode, table: &[u8], used: usize, out: &mut [u8]) -> Outcome {
+fn translate_to(rt: &HostRuntime, mode: Mode, table: &[u8], used: usize, out: &mut [u8]) -> Outcome {
     match rm3::translate(mode, table, used, out) {
-        Translated::Length(n) => sent_with(Reply::accepted().number(n), out),
-        Translated::Refused(r) => sent_with(Reply::refused(r).number(0), out),
+        Translated::Length(n) => sent_with(rt, Reply::accepted().number(n), out),
+        Translated::Refused(r) => sent_with(rt, Reply::refused(r).number(0), out),
     }
 }
 
 // Operations 6 and 16: the RM3 table, with helpers made anew or once, in a buffer that is read here.
-fn translate(mode: Mode, table: &[u8], used: usize) -> Outcome {
+fn translate(rt: &HostRuntime, mode: Mode, table: &[u8], used: usize) -> Outcome {
     let mut buffer = io::large_buffer();
-    match input::read_part(&mut buffer) {
-        Part::Bytes(n) => translate_to(mode, table, used, &mut buffer[..n]),
+    match input::read_part(rt, &mut buffer) {
+        Part::Bytes(n) => translate_to(rt, mode, table, used, &mut buffer[..n]),
         Part::Not(fault) => Outcome::Not(fault),
     }
 }
 
 // Operation 7: the outputs' number through a reading, under the assignment, which is read here.
-fn evaluate_reading(records: &[u8], c: Counts) -> Outcome {
-    match input::read_number() {
-        Word::Number(assignment) => valued(reading::evaluated_as(
+fn evaluate_reading(rt: &HostRuntime, records: &[u8], c: Counts) -> Outcome {
+    match input::read_number(rt) {
+        Word::Number(assignment) => valued(rt, reading::evaluated_as(
             records, c.inputs, c.gates, c.outputs, assignment,
         )),
         Word::Not(fault) => Outcome::Not(fault),
@@ -196,21 +195,20 @@ fn evaluate_reading(records: &[u8], c: Counts) -> Outcome {
 }
 
 // Operation 8: size and depth through a reading.
-fn report_reading(records: &[u8], c: Counts) -> Outcome {
-    reported(reading::reported_as(records, c.inputs, c.gates, c.outputs))
+fn report_reading(rt: &HostRuntime, records: &[u8], c: Counts) -> Outcome {
+    reported(rt, reading::reported_as(records, c.inputs, c.gates, c.outputs))
 }
 
 // Operation 25: the length of a function's network, and the buffer that it is written to.
-fn network(number: u32, out: &mut [u8]) -> Outcome {
+fn network(rt: &HostRuntime, number: u32, out: &mut [u8]) -> Outcome {
     match catalogue::catalogue(number, out) {
-        Catalogued::Length(n) => sent_with(Reply::accepted().number(n), out),
-        Catalogued::Refused(r) => sent_with(Reply::refused(r).number(0), out),
+        Catalogued::Length(n) => sent_with(rt, Reply::accepted().number(n), out),
+        Catalogued::Refused(r) => sent_with(rt, Reply::refused(r).number(0), out),
     }
 }
 
 // The reply of a script, the table as it left it, and then each place that was lent, which the bytes give and take.
-fn run_followed(
-    table: &mut [u8],
+fn run_followed(rt: &HostRuntime, table: &mut [u8],
     used: usize,
     steps: &[u8],
     bytes: &mut [u8; MOST_BYTES],
@@ -222,24 +220,24 @@ fn run_followed(
     places::take_short(places, bytes);
     let done = rewriting::follow(table, used, steps, places);
     places::give_short(bytes, places);
-    sent_with_places(ran(done), table, bytes, length)
+    sent_with_places(rt, ran(done), table, bytes, length)
 }
 
 // The same, where the places are still to be read.
-fn follow_by(table: &mut [u8], used: usize, steps: &[u8]) -> Outcome {
+fn follow_by(rt: &HostRuntime, table: &mut [u8], used: usize, steps: &[u8]) -> Outcome {
     let mut bytes = io::large_buffer();
     let mut places = [0u16; MOST_PLACES];
-    match places::read_places(&mut bytes, 2) {
-        Part::Bytes(count) => run_followed(table, used, steps, &mut bytes, &mut places[..count]),
+    match places::read_places(rt, &mut bytes, 2) {
+        Part::Bytes(count) => run_followed(rt, table, used, steps, &mut bytes, &mut places[..count]),
         Part::Not(fault) => Outcome::Not(fault),
     }
 }
 
 // Operation 28: the gates followed through a script, which is read here.
-fn follow(table: &mut [u8], used: usize) -> Outcome {
+fn follow(rt: &HostRuntime, table: &mut [u8], used: usize) -> Outcome {
     let mut buffer = io::large_buffer();
-    match input::read_part(&mut buffer) {
-        Part::Bytes(n) => follow_by(table, used, &buffer[..n]),
+    match input::read_part(rt, &mut buffer) {
+        Part::Bytes(n) => follow_by(rt, table, used, &buffer[..n]),
         Part::Not(fault) => Outcome::Not(fault),
     }
 }
@@ -267,8 +265,7 @@ fn answered(table: &[u8], used: usize, asked: Asked, places: &mut [u64]) -> Repl
 }
 
 // How many places were written, and then each that was lent, which the bytes give and take.
-fn place(
-    table: &[u8],
+fn place(rt: &HostRuntime, table: &[u8],
     used: usize,
     asked: Asked,
     bytes: &mut [u8; MOST_BYTES],
@@ -280,23 +277,23 @@ fn place(
     places::take_long(places, bytes);
     let reply = answered(table, used, asked, places);
     places::give_long(bytes, places);
-    sent_with_places(reply, b"", bytes, length)
+    sent_with_places(rt, reply, b"", bytes, length)
 }
 
 // Operation 23, and the end of 22: the places are read here.
-fn place_in(table: &[u8], used: usize, asked: Asked) -> Outcome {
+fn place_in(rt: &HostRuntime, table: &[u8], used: usize, asked: Asked) -> Outcome {
     let mut bytes = io::large_buffer();
     let mut places = [0u64; MOST_PLACES];
-    match places::read_places(&mut bytes, 8) {
-        Part::Bytes(count) => place(table, used, asked, &mut bytes, &mut places[..count]),
+    match places::read_places(rt, &mut bytes, 8) {
+        Part::Bytes(count) => place(rt, table, used, asked, &mut bytes, &mut places[..count]),
         Part::Not(fault) => Outcome::Not(fault),
     }
 }
 
 // Operation 22: the words from an assignment on, which is read here.
-fn words_from(table: &[u8], used: usize) -> Outcome {
-    match input::read_number() {
-        Word::Number(first) => place_in(table, used, Asked::Words(first)),
+fn words_from(rt: &HostRuntime, table: &[u8], used: usize) -> Outcome {
+    match input::read_number(rt) {
+        Word::Number(first) => place_in(rt, table, used, Asked::Words(first)),
         Word::Not(fault) => Outcome::Not(fault),
     }
 }
@@ -309,88 +306,88 @@ enum Lead {
 }
 
 // Answers an operation on a table of this used length, which is lent exactly as the request has it, to read or to change.
-fn on_table(operation: u8, table: &mut [u8], used: usize) -> Outcome {
+fn on_table(rt: &HostRuntime, operation: u8, table: &mut [u8], used: usize) -> Outcome {
     match operation {
-        1 => check(table, used),
-        2 => evaluate(table, used),
-        3 => report(table, used),
-        4 => step(table, used),
-        5 => script(table, used),
-        16 => translate(Mode::Once, table, used),
-        22 => words_from(table, used),
-        23 => place_in(table, used, Asked::Totals),
-        28 => follow(table, used),
-        _ => translate(Mode::Anew, table, used),
+        1 => check(rt, table, used),
+        2 => evaluate(rt, table, used),
+        3 => report(rt, table, used),
+        4 => step(rt, table, used),
+        5 => script(rt, table, used),
+        16 => translate(rt, Mode::Once, table, used),
+        22 => words_from(rt, table, used),
+        23 => place_in(rt, table, used, Asked::Totals),
+        28 => follow(rt, table, used),
+        _ => translate(rt, Mode::Anew, table, used),
     }
 }
 
 // Answers an operation on a buffer that stands behind this number.
-fn on_numbered(operation: u8, buffer: &mut [u8], number: u32) -> Outcome {
+fn on_numbered(rt: &HostRuntime, operation: u8, buffer: &mut [u8], number: u32) -> Outcome {
     match operation {
-        25 => network(number, buffer),
-        _ => on_table(operation, buffer, number as usize),
+        25 => network(rt, number, buffer),
+        _ => on_table(rt, operation, buffer, number as usize),
     }
 }
 
 // Answers an operation on a reading of these records with these counts.
-fn on_reading(operation: u8, records: &[u8], counts: Counts) -> Outcome {
+fn on_reading(rt: &HostRuntime, operation: u8, records: &[u8], counts: Counts) -> Outcome {
     match operation {
-        7 => evaluate_reading(records, counts),
-        _ => report_reading(records, counts),
+        7 => evaluate_reading(rt, records, counts),
+        _ => report_reading(rt, records, counts),
     }
 }
 
-fn on_lent(operation: u8, buffer: &mut [u8], lead: Lead) -> Outcome {
+fn on_lent(rt: &HostRuntime, operation: u8, buffer: &mut [u8], lead: Lead) -> Outcome {
     match lead {
-        Lead::Number(number) => on_numbered(operation, buffer, number),
-        Lead::Counted(counts) => on_reading(operation, buffer, counts),
+        Lead::Number(number) => on_numbered(rt, operation, buffer, number),
+        Lead::Counted(counts) => on_reading(rt, operation, buffer, counts),
     }
 }
 
 // Reads the buffer, and answers.
-fn on_part(operation: u8, buffer: &mut [u8], lead: Lead) -> Outcome {
-    match input::read_part(buffer) {
-        Part::Bytes(n) => on_lent(operation, &mut buffer[..n], lead),
+fn on_part(rt: &HostRuntime, operation: u8, buffer: &mut [u8], lead: Lead) -> Outcome {
+    match input::read_part(rt, buffer) {
+        Part::Bytes(n) => on_lent(rt, operation, &mut buffer[..n], lead),
         Part::Not(fault) => Outcome::Not(fault),
     }
 }
 
 // Reads the number, and answers.
-fn with_number(operation: u8, buffer: &mut [u8]) -> Outcome {
-    match input::read_number() {
-        Word::Number(number) => on_part(operation, buffer, Lead::Number(number)),
+fn with_number(rt: &HostRuntime, operation: u8, buffer: &mut [u8]) -> Outcome {
+    match input::read_number(rt) {
+        Word::Number(number) => on_part(rt, operation, buffer, Lead::Number(number)),
         Word::Not(fault) => Outcome::Not(fault),
     }
 }
 
 // Reads the counts, and answers.
-fn with_counts(operation: u8, buffer: &mut [u8]) -> Outcome {
-    match input::read_counts() {
-        Claim::Counted(counts) => on_part(operation, buffer, Lead::Counted(counts)),
+fn with_counts(rt: &HostRuntime, operation: u8, buffer: &mut [u8]) -> Outcome {
+    match input::read_counts(rt) {
+        Claim::Counted(counts) => on_part(rt, operation, buffer, Lead::Counted(counts)),
         Claim::Not(fault) => Outcome::Not(fault),
     }
 }
 
 // Answers a request that begins with this operation.
-fn on_operation(operation: u8, buffer: &mut [u8]) -> Outcome {
+fn on_operation(rt: &HostRuntime, operation: u8, buffer: &mut [u8]) -> Outcome {
     match operation {
-        1..=6 | 16 | 22..=23 | 25 | 28 => with_number(operation, buffer),
-        7..=8 => with_counts(operation, buffer),
+        1..=6 | 16 | 22..=23 | 25 | 28 => with_number(rt, operation, buffer),
+        7..=8 => with_counts(rt, operation, buffer),
         _ => Outcome::Unknown(operation),
     }
 }
 
 // Reads one request and answers it.
-fn answer(buffer: &mut [u8]) -> Outcome {
-    match input::read_operation() {
-        Start::Operation(operation) => on_operation(operation, buffer),
+fn answer(rt: &HostRuntime, buffer: &mut [u8]) -> Outcome {
+    match input::read_operation(rt) {
+        Start::Operation(operation) => on_operation(rt, operation, buffer),
         Start::End => Outcome::End,
         Start::Not(fault) => Outcome::Not(fault),
     }
 }
 
 // Says why a request cannot be answered.
-fn faulty(program: Program, fault: Fault) -> End {
+fn faulty(program: Program<'_>, fault: Fault) -> End {
     let line = program.line();
     match fault {
         Fault::Cut => program.failed(line.word(b"the input ended inside a request")),
@@ -415,8 +412,8 @@ enum Next {
 }
 
 // Answers one request.
-fn turn(program: Program, buffer: &mut [u8; PART]) -> Next {
-    match answer(buffer) {
+fn turn(program: Program<'_>, buffer: &mut [u8; PART]) -> Next {
+    match answer(program.rt(), buffer) {
         Outcome::Answered => Next::On,
         Outcome::End => Next::Over(End::Accepted),
         Outcome::Unknown(operation) => Next::Over(program.failed(
@@ -431,7 +428,7 @@ fn turn(program: Program, buffer: &mut [u8; PART]) -> Next {
 }
 
 // A proved loop has to end, and nothing says that the input does: it counts its turns down from a number that no run uses up.
-fn serve(program: Program) -> End {
+fn serve(program: Program<'_>) -> End {
     let mut buffer = io::large_buffer();
     let mut turns = u64::MAX;
     while turns > 0 {
@@ -444,8 +441,8 @@ fn serve(program: Program) -> End {
     End::Failed
 }
 
-fn main() {
-    let program = Program::begun(b"majpipe");
+fn main(rt: HostRuntime) {
+    let program = Program::begun(&rt, b"majpipe");
     match program.called(
         0,
         b"",

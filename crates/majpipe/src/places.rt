@@ -3,7 +3,7 @@ ghost use Rattle.std.specs.Prelude.{◌+◌, ◌≤◌, length};
 ghost use Rattle.majpipe.specs.inner.Part.{Few};
 
 use crate::input::{Fault, Part, Word, read_bytes, read_number};
-use libc::STDOUT_FILENO;
+use program::{STDOUT_FILENO};
 
 // The most places that a request may have, and the most bytes that they take.
 pub const MOST_PLACES: usize = 8192;
@@ -11,26 +11,26 @@ pub const MOST_PLACES: usize = 8192;
 pub const MOST_BYTES: usize = 8 * MOST_PLACES;
 
 // So many numbers of this many bytes each.
-fn read_numbers(bytes: &mut [u8; MOST_BYTES], width: u32, count: u32) -> Part
+fn read_numbers(rt: &HostRuntime, bytes: &mut [u8; MOST_BYTES], width: u32, count: u32) -> Part
     requires { width ≤ 8 }
     ensures { Few result }
 {
     if 8192 < count {
         return Part::Not(Fault::TooMany(count));
     }
-    match read_bytes(bytes, width * count) {
+    match read_bytes(rt, bytes, width * count) {
         Part::Bytes(_) => Part::Bytes(count as usize),
         Part::Not(fault) => Part::Not(fault),
     }
 }
 
 // A count, and then so many numbers of this many bytes each, which go to the start of the bytes.
-pub(crate) fn read_places(bytes: &mut [u8; MOST_BYTES], width: u32) -> Part
+pub(crate) fn read_places(rt: &HostRuntime, bytes: &mut [u8; MOST_BYTES], width: u32) -> Part
     requires { width ≤ 8 }
     ensures { Few result }
 {
-    match read_number() {
-        Word::Number(count) => read_numbers(bytes, width, count),
+    match read_number(rt) {
+        Word::Number(count) => read_numbers(rt, bytes, width, count),
         Word::Not(fault) => Part::Not(fault),
     }
 }
@@ -123,9 +123,9 @@ pub(crate) fn give_long(bytes: &mut [u8; MOST_BYTES], places: &[u64])
 }
 
 // Writes the first so many bytes, and answers whether all were written.
-pub fn write_first(bytes: &[u8], length: usize) -> bool {
+pub fn write_first(rt: &HostRuntime, bytes: &[u8], length: usize) -> bool {
     if bytes.len() < length {
         return false;
     }
-    program::write_whole(STDOUT_FILENO, &bytes[..length])
+    program::write_whole(rt, STDOUT_FILENO, &bytes[..length])
 }

@@ -2,7 +2,7 @@
 ghost use Rattle.std.specs.Prelude.{◌≡◌};
 ghost use Rattle.text.specs.Shown.{with_word, four_bytes};
 
-use libc::STDOUT_FILENO;
+use program::{STDOUT_FILENO};
 use refusals::Refusal;
 use text::Line;
 
@@ -46,8 +46,8 @@ impl Reply {
     }
 
     // Writes the reply, and answers whether all of it was written.
-    pub fn write(self) -> bool {
+    pub fn write(self, rt: &HostRuntime) -> bool {
         let line = self.line;
-        program::write_line(STDOUT_FILENO, line)
+        program::write_line(rt, STDOUT_FILENO, line)
     }
 }

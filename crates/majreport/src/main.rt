@@ -1,8 +1,7 @@
 // Reports on the table on standard input: prints its size and its depth, or the refusal that it meets.
 #![tactic(auto)]
 
-use libc::STDOUT_FILENO;
-use program::{Called, End, Input, Program};
+use program::{Called, End, Input, Program, STDOUT_FILENO};
 use questions::{Reported, Size};
 use text::Line;
 
@@ -16,14 +15,14 @@ fn measured(s: Size) -> Line {
 }
 
 // Reports on the first used bytes, which are the table.
-fn answer(program: Program, table: &[u8; program::MOST_BYTES], used: usize) -> End {
+fn answer(program: Program<'_>, table: &[u8; program::MOST_BYTES], used: usize) -> End {
     match questions::report(table, used) {
         Reported::Whole(s) => program.put(STDOUT_FILENO, measured(s), End::Accepted),
         Reported::Refused(r) => program.refused(STDOUT_FILENO, r),
     }
 }
 
-fn run(program: Program) -> End {
+fn run(program: Program<'_>) -> End {
     let mut table = [0u8; program::MOST_BYTES];
     match program.read_table(&mut table, STDOUT_FILENO) {
         Input::Table(used) => answer(program, &table, used),
@@ -31,8 +30,8 @@ fn run(program: Program) -> End {
     }
 }
 
-fn main() {
-    let program = Program::begun(b"majreport");
+fn main(rt: HostRuntime) {
+    let program = Program::begun(&rt, b"majreport");
     match program.called(
         0,
         b"",

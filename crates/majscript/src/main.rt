@@ -2,27 +2,26 @@
 // standard output, and what the script replied to standard error.
 #![tactic(auto)]
 
-use libc::{STDERR_FILENO, STDOUT_FILENO};
-use program::{Called, End, Input, Program};
+use program::{Called, End, Input, Program, STDERR_FILENO, STDOUT_FILENO};
 use scripts::Script;
 
 // Writes the first bytes of a buffer, or all where it has fewer.
-fn write_first(bytes: &[u8], count: usize) -> bool {
+fn write_first(rt: &HostRuntime, bytes: &[u8], count: usize) -> bool {
     if bytes.len() < count {
-        return program::write_whole(STDOUT_FILENO, bytes);
+        return program::write_whole(rt, STDOUT_FILENO, bytes);
     }
-    program::write_whole(STDOUT_FILENO, &bytes[..count])
+    program::write_whole(rt, STDOUT_FILENO, &bytes[..count])
 }
 
 // Runs a script on the first used bytes, which are the table.
 fn answer(
-    program: Program,
+    program: Program<'_>,
     table: &mut [u8; program::MOST_BYTES],
     used: usize,
     script: &[u8],
 ) -> End {
     let progress = rewriting::script(table, used, script);
-    if !write_first(table, progress.used) {
+    if !write_first(program.rt(), table, progress.used) {
         return program.written(false, End::Accepted);
     }
     let ending = progress.ending;
@@ -34,7 +33,7 @@ fn answer(
 }
 
 // Reads the table, and runs the script on it.
-fn on_table(program: Program, script: &[u8]) -> End {
+fn on_table(program: Program<'_>, script: &[u8]) -> End {
     let mut table = [0u8; program::MOST_BYTES];
     match program.read_table(&mut table, STDERR_FILENO) {
         Input::Table(used) => answer(program, &mut table, used, script),
@@ -43,7 +42,7 @@ fn on_table(program: Program, script: &[u8]) -> End {
 }
 
 // Reads the script, and runs it.
-fn run(program: Program) -> End {
+fn run(program: Program<'_>) -> End {
     let mut buffer = [0u8; scripts::ROOM];
     match scripts::read_script(program, &mut buffer, b"majscript SCRIPT < TABLE > NEW") {
         Script::Bytes(n) => on_table(program, &buffer[..n]),
@@ -51,8 +50,8 @@ fn run(program: Program) -> End {
     }
 }
 
-fn main() {
-    let program = Program::begun(b"majscript");
+fn main(rt: HostRuntime) {
+    let program = Program::begun(&rt, b"majscript");
     match program.called(
         1,
         b"the script's file is missing",

@@ -1,9 +1,8 @@
 // Shows the table on standard input in words, one line a record, or prints the refusal that it meets.
 #![tactic(auto)]
 
-use libc::STDOUT_FILENO;
 use majority::Record;
-use program::{Called, End, Input, Program};
+use program::{Called, End, Input, Program, STDOUT_FILENO};
 use tables::Checked;
 use text::Line;
 
@@ -51,13 +50,13 @@ fn shown(r: Record, number: usize, inputs: usize) -> Line {
 }
 
 // Shows each record, the first being node 1, until a line cannot be written.
-fn show(program: Program, table: &[u8; program::MOST_BYTES], records: usize, inputs: usize) -> End {
+fn show(program: Program<'_>, table: &[u8; program::MOST_BYTES], records: usize, inputs: usize) -> End {
     let mut i: usize = 0;
     while i < records {
         let r = tables::record_at(table, i);
         i += 1;
         let line = shown(r, i, inputs).word(b"\n");
-        if !program::write_line(STDOUT_FILENO, line) {
+        if !program::write_line(program.rt(), STDOUT_FILENO, line) {
             return program.written(false, End::Accepted);
         }
     }
@@ -65,14 +64,14 @@ fn show(program: Program, table: &[u8; program::MOST_BYTES], records: usize, inp
 }
 
 // Shows the first used bytes, which are the table.
-fn answer(program: Program, table: &[u8; program::MOST_BYTES], used: usize) -> End {
+fn answer(program: Program<'_>, table: &[u8; program::MOST_BYTES], used: usize) -> End {
     match tables::check(table, used) {
         Checked::Accepted(c) => show(program, table, used / 8, c.inputs),
         Checked::Refused(r) => program.refused(STDOUT_FILENO, r),
     }
 }
 
-fn run(program: Program) -> End {
+fn run(program: Program<'_>) -> End {
     let mut table = [0u8; program::MOST_BYTES];
     match program.read_table(&mut table, STDOUT_FILENO) {
         Input::Table(used) => answer(program, &table, used),
@@ -80,8 +79,8 @@ fn run(program: Program) -> End {
     }
 }
 
-fn main() {
-    let program = Program::begun(b"majshow");
+fn main(rt: HostRuntime) {
+    let program = Program::begun(&rt, b"majshow");
     match program.called(
         0,
         b"",

@@ -1,9 +1,8 @@
 // Counts over all assignments of the table on standard input: prints a line an output, how many make it true, or the refusal that the table meets.
 #![tactic(auto)]
 
-use libc::STDOUT_FILENO;
 use majority::MOST_OUTPUTS;
-use program::{Called, End, Input, Program};
+use program::{Called, End, Input, Program, STDOUT_FILENO};
 use tables::Checked;
 use text::Line;
 use words::Placed;
@@ -20,14 +19,14 @@ fn shown(output: usize, total: u64, assignments: u64) -> Line {
 }
 
 // Shows the totals of so many outputs, until a line cannot be written.
-fn show(program: Program, totals: &[u64; MOST_OUTPUTS], count: usize, assignments: u64) -> End {
+fn show(program: Program<'_>, totals: &[u64; MOST_OUTPUTS], count: usize, assignments: u64) -> End {
     let mut j: usize = 0;
     while j < MOST_OUTPUTS {
         if count <= j {
             return End::Accepted;
         }
         let line = shown(j + 1, totals[j], assignments).word(b"\n");
-        if !program::write_line(STDOUT_FILENO, line) {
+        if !program::write_line(program.rt(), STDOUT_FILENO, line) {
             return program.written(false, End::Accepted);
         }
         j += 1;
@@ -49,7 +48,7 @@ fn assignments(checked: Checked) -> u64 {
 }
 
 // Counts the totals of the first used bytes, which are the table.
-fn answer(program: Program, table: &[u8; program::MOST_BYTES], used: usize) -> End {
+fn answer(program: Program<'_>, table: &[u8; program::MOST_BYTES], used: usize) -> End {
     let mut places = [0u64; MOST_OUTPUTS];
     match words::totals(table, used, &mut places) {
         Placed::Places(count) => show(
@@ -62,7 +61,7 @@ fn answer(program: Program, table: &[u8; program::MOST_BYTES], used: usize) -> E
     }
 }
 
-fn run(program: Program) -> End {
+fn run(program: Program<'_>) -> End {
     let mut table = [0u8; program::MOST_BYTES];
     match program.read_table(&mut table, STDOUT_FILENO) {
         Input::Table(used) => answer(program, &table, used),
@@ -70,8 +69,8 @@ fn run(program: Program) -> End {
     }
 }
 
-fn main() {
-    let program = Program::begun(b"majtotals");
+fn main(rt: HostRuntime) {
+    let program = Program::begun(&rt, b"majtotals");
     match program.called(
         0,
         b"",

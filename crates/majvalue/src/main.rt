@@ -2,14 +2,13 @@
 // or the refusal that the table or the assignment meets.
 #![tactic(auto)]
 
-use libc::STDOUT_FILENO;
-use program::{Called, End, Input, Program};
+use program::{Called, End, Input, Program, STDOUT_FILENO};
 use questions::Valued;
 use text::{Decimal, Line};
 
 // Works out the outputs of the first used bytes, which are the table.
 fn answer(
-    program: Program,
+    program: Program<'_>,
     table: &[u8; program::MOST_BYTES],
     used: usize,
     assignment: u32,
@@ -25,7 +24,7 @@ fn answer(
 }
 
 // Reads the table, and answers.
-fn answer_under(program: Program, assignment: u32) -> End {
+fn answer_under(program: Program<'_>, assignment: u32) -> End {
     let mut table = [0u8; program::MOST_BYTES];
     match program.read_table(&mut table, STDOUT_FILENO) {
         Input::Table(used) => answer(program, &table, used, assignment),
@@ -33,7 +32,7 @@ fn answer_under(program: Program, assignment: u32) -> End {
     }
 }
 
-fn run(program: Program) -> End {
+fn run(program: Program<'_>) -> End {
     let mut word = io::large_buffer();
     let len = program.argument(&mut word);
     match text::number_of(&word[..len]) {
@@ -45,8 +44,8 @@ fn run(program: Program) -> End {
     }
 }
 
-fn main() {
-    let program = Program::begun(b"majvalue");
+fn main(rt: HostRuntime) {
+    let program = Program::begun(&rt, b"majvalue");
     match program.called(
         1,
         b"the assignment is missing",

@@ -2,21 +2,20 @@
 // word, or the refusal that the table or the assignment meets.
 #![tactic(auto)]
 
-use libc::STDOUT_FILENO;
 use majority::MOST_OUTPUTS;
-use program::{Called, End, Input, Program};
+use program::{Called, End, Input, Program, STDOUT_FILENO};
 use text::{Decimal, Line};
 use words::Placed;
 
 // Shows the words of so many outputs, until a line cannot be written.
-fn show(program: Program, words: &[u64; MOST_OUTPUTS], count: usize) -> End {
+fn show(program: Program<'_>, words: &[u64; MOST_OUTPUTS], count: usize) -> End {
     let mut j: usize = 0;
     while j < MOST_OUTPUTS {
         if count <= j {
             return End::Accepted;
         }
         let line = Line::empty().hexadecimal(words[j]).word(b"\n");
-        if !program::write_line(STDOUT_FILENO, line) {
+        if !program::write_line(program.rt(), STDOUT_FILENO, line) {
             return program.written(false, End::Accepted);
         }
         j += 1;
@@ -25,7 +24,7 @@ fn show(program: Program, words: &[u64; MOST_OUTPUTS], count: usize) -> End {
 }
 
 // Works out the words of the first used bytes, which are the table.
-fn answer(program: Program, table: &[u8; program::MOST_BYTES], used: usize, first: u32) -> End {
+fn answer(program: Program<'_>, table: &[u8; program::MOST_BYTES], used: usize, first: u32) -> End {
     let mut places = [0u64; MOST_OUTPUTS];
     match words::words(table, used, first, &mut places) {
         Placed::Places(count) => show(program, &places, count),
@@ -34,7 +33,7 @@ fn answer(program: Program, table: &[u8; program::MOST_BYTES], used: usize, firs
 }
 
 // Reads the table, and answers.
-fn answer_from(program: Program, first: u32) -> End {
+fn answer_from(program: Program<'_>, first: u32) -> End {
     let mut table = [0u8; program::MOST_BYTES];
     match program.read_table(&mut table, STDOUT_FILENO) {
         Input::Table(used) => answer(program, &table, used, first),
@@ -42,7 +41,7 @@ fn answer_from(program: Program, first: u32) -> End {
     }
 }
 
-fn run(program: Program) -> End {
+fn run(program: Program<'_>) -> End {
     let mut word = io::large_buffer();
     let len = program.argument(&mut word);
     match text::number_of(&word[..len]) {
@@ -54,8 +53,8 @@ fn run(program: Program) -> End {
     }
 }
 
-fn main() {
-    let program = Program::begun(b"majwords");
+fn main(rt: HostRuntime) {
+    let program = Program::begun(&rt, b"majwords");
     match program.called(
         1,
         b"the first assignment is missing",

@@ -4,8 +4,8 @@
 use program::{Called, Program};
 use translation::Mode;
 
-fn main() {
-    let program = Program::begun(b"rm3lean");
+fn main(rt: HostRuntime) {
+    let program = Program::begun(&rt, b"rm3lean");
     match program.called(
         0,
         b"",

@@ -4,8 +4,8 @@
 use program::{Called, Program};
 use translation::Mode;
 
-fn main() {
-    let program = Program::begun(b"rm3list");
+fn main(rt: HostRuntime) {
+    let program = Program::begun(&rt, b"rm3list");
     match program.called(
         0,
         b"",

@@ -2,17 +2,16 @@
 // so, each made anew. Where it cannot, says why on standard error.
 #![tactic(auto)]
 
-use libc::{STDERR_FILENO, STDOUT_FILENO};
-use program::{Called, End, Input, Program};
+use program::{Called, End, Input, Program, STDERR_FILENO, STDOUT_FILENO};
 use rm3::Translated;
 use translation::Mode;
 
 // Writes the RM3 table of the first used bytes, which are the table.
-fn answer(program: Program, mode: Mode, table: &[u8; program::MOST_BYTES], used: usize) -> End {
+fn answer(program: Program<'_>, mode: Mode, table: &[u8; program::MOST_BYTES], used: usize) -> End {
     let mut out = [0u8; rm3::MOST_BYTES];
     match rm3::translate(mode, table, used, &mut out) {
         Translated::Length(length) => program.written(
-            program::write_whole(STDOUT_FILENO, &out[..length]),
+            program::write_whole(program.rt(), STDOUT_FILENO, &out[..length]),
             End::Accepted,
         ),
         Translated::Refused(r) => program.refused(STDERR_FILENO, r),
@@ -20,7 +19,7 @@ fn answer(program: Program, mode: Mode, table: &[u8; program::MOST_BYTES], used:
 }
 
 // Reads the table, and answers.
-fn answer_in(program: Program, mode: Mode) -> End {
+fn answer_in(program: Program<'_>, mode: Mode) -> End {
     let mut table = [0u8; program::MOST_BYTES];
     match program.read_table(&mut table, STDERR_FILENO) {
         Input::Table(used) => answer(program, mode, &table, used),
@@ -28,7 +27,7 @@ fn answer_in(program: Program, mode: Mode) -> End {
     }
 }
 
-fn run(program: Program) -> End {
+fn run(program: Program<'_>) -> End {
     if program.arguments() == 0 {
         return answer_in(program, Mode::Once);
     }
@@ -43,8 +42,8 @@ fn run(program: Program) -> End {
     )
 }
 
-fn main() {
-    let program = Program::begun(b"rm3table");
+fn main(rt: HostRuntime) {
+    let program = Program::begun(&rt, b"rm3table");
     match program.called_between(
         0,
         1,

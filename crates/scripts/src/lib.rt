@@ -3,8 +3,11 @@
 
 ghost use Rattle.scripts.specs.inner.File.{Within};
 
-use program::{End, Got, Program};
+use program::{EBADF, EILSEQ, End, Got, Program};
 use rewriting::{Ending, Progress};
+use std::fs;
+use std::fs::File;
+use std::os::fd::AsRawFd;
 use text::Line;
 
 // The most bytes that a script file may have, and room for one more, to see that it is longer.
@@ -20,10 +23,16 @@ pub enum Script {
 }
 
 // Reads the script whole to the start of the buffer.
-fn read_file(program: Program, fd: i32, path: &[u8], buffer: &mut [u8], usage: &[u8]) -> Script
+fn read_file(
+    program: Program<'_>,
+    mut file: File,
+    path: &[u8],
+    buffer: &mut [u8],
+    usage: &[u8],
+) -> Script
     ensures { Within result buffer.new }
 {
-    match program::read_whole(fd, buffer) {
+    match program::read_whole(&mut file, buffer) {
         Got::Bytes(n) => {
             if MOST_BYTES < n {
                 return Script::None(program.misused(
@@ -37,27 +46,35 @@ fn read_file(program: Program, fd: i32, path: &[u8], buffer: &mut [u8], usage: &
     }
 }
 
+// Opens a file, or answers the number of the error. The library opens paths that are text alone.
+fn open_read(program: Program<'_>, path: &[u8]) -> Result<File, i32> {
+    match str::from_utf8(path) {
+        Ok(name) => fs::open(program.rt(), name).map_err(program::error_number),
+        Err(_) => Err(EILSEQ),
+    }
+}
+
 // Reads the script that the program's argument names to the start of the buffer. A file that was opened under one of the first three numbers
 // stands where a standard one should.
-pub fn read_script(program: Program, buffer: &mut [u8], usage: &[u8]) -> Script
+pub fn read_script(program: Program<'_>, buffer: &mut [u8], usage: &[u8]) -> Script
     ensures { Within result buffer.new }
 {
     let mut word = io::large_buffer();
     let len = program.argument(&mut word);
     let path = &word[..len];
-    let fd = os::open_read(path);
-    if fd < 0 {
-        return Script::None(program.unread_file(b"the script", path, os::errno(), usage));
+    match open_read(program, path) {
+        Ok(file) => {
+            let fd = file.as_raw_fd();
+            if fd == 0 {
+                return Script::None(program.unread(EBADF));
+            }
+            if fd < 3 {
+                return Script::None(program.written(false, End::Accepted));
+            }
+            read_file(program, file, path, buffer, usage)
+        }
+        Err(error) => Script::None(program.unread_file(b"the script", path, error, usage)),
     }
-    if fd == 0 {
-        return Script::None(program.unread(libc::EBADF));
-    }
-    if fd < 3 {
-        return Script::None(program.written(false, End::Accepted));
-    }
-    let script = read_file(program, fd, path, buffer, usage);
-    libc::close(fd);
-    script
 }
 
 // The line with how a script ended after its text.

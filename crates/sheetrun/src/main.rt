@@ -3,9 +3,8 @@
 
 ghost use Rattle.std.specs.Prelude.{◌≤◌};
 
-use libc::STDOUT_FILENO;
 use majority::Record;
-use program::{Called, End, Program};
+use program::{Called, End, Program, STDOUT_FILENO};
 use rewriting::Stepped;
 use rules::Step;
 use tables::Checked;
@@ -134,14 +133,14 @@ fn rule_3(count: u16) -> Line
 }
 
 // Prints a line, where all before it were written.
-fn then(program: Program, before: End, line: Line) -> End {
+fn then(program: Program<'_>, before: End, line: Line) -> End {
     match before {
         End::Failed => End::Failed,
         _ => program.put(STDOUT_FILENO, line, End::Accepted),
     }
 }
 
-fn run(program: Program) -> End {
+fn run(program: Program<'_>) -> End {
     let first = program.put(STDOUT_FILENO, inputs(32), End::Accepted);
     let second = then(program, first, inputs(33));
     let third = then(program, second, gates(1024));
@@ -152,8 +151,8 @@ fn run(program: Program) -> End {
     then(program, seventh, gate_3(5))
 }
 
-fn main() {
-    let program = Program::begun(b"sheetrun");
+fn main(rt: HostRuntime) {
+    let program = Program::begun(&rt, b"sheetrun");
     match program.called(
         0,
         b"",
