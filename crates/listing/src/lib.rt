@@ -71,6 +71,7 @@ fn listed(
 
 // Lists the RM3 table of the first used bytes, which are the table. Where the check accepts it, no later call refuses it: the buffer holds
 // any RM3 table. What each would say is said all the same.
+#[tactic(auto, using(rm3::proofs::Replies::reply_counts, rm3::proofs::Replies::reply_fits))]
 fn answer(program: Program<'_>, mode: Mode, table: &[u8; program::MOST_BYTES], used: usize) -> End {
     let mut out = [0u8; rm3::MOST_BYTES];
     match tables::check(table, used) {
