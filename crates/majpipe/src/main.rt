@@ -52,7 +52,13 @@ fn sent_with(rt: &HostRuntime, reply: Reply, bytes: &[u8]) -> Outcome {
 }
 
 // The same, where so many bytes of places follow, with no byte before them where no buffer was changed.
-fn sent_with_places(rt: &HostRuntime, reply: Reply, table: &[u8], bytes: &[u8], length: usize) -> Outcome {
+fn sent_with_places(
+    rt: &HostRuntime,
+    reply: Reply,
+    table: &[u8],
+    bytes: &[u8],
+    length: usize,
+) -> Outcome {
     if reply.write(rt)
         && program::write_whole(rt, STDOUT_FILENO, table)
         && places::write_first(rt, bytes, length)
@@ -65,7 +71,8 @@ fn sent_with_places(rt: &HostRuntime, reply: Reply, table: &[u8], bytes: &[u8], 
 // Operation 1: the counts.
 fn check(rt: &HostRuntime, table: &[u8], used: usize) -> Outcome {
     match tables::check(table, used) {
-        Checked::Accepted(c) => sent(rt, 
+        Checked::Accepted(c) => sent(
+            rt,
             Reply::accepted()
                 .number(c.inputs)
                 .number(c.gates)
@@ -168,7 +175,13 @@ fn script(rt: &HostRuntime, table: &mut [u8], used: usize) -> Outcome {
 }
 
 // The length of the RM3 table in a mode, and the buffer that it is written to.
-fn translate_to(rt: &HostRuntime, mode: Mode, table: &[u8], used: usize, out: &mut [u8]) -> Outcome {
+fn translate_to(
+    rt: &HostRuntime,
+    mode: Mode,
+    table: &[u8],
+    used: usize,
+    out: &mut [u8],
+) -> Outcome {
     match rm3::translate(mode, table, used, out) {
         Translated::Length(n) => sent_with(rt, Reply::accepted().number(n), out),
         Translated::Refused(r) => sent_with(rt, Reply::refused(r).number(0), out),
@@ -187,16 +200,20 @@ fn translate(rt: &HostRuntime, mode: Mode, table: &[u8], used: usize) -> Outcome
 // Operation 7: the outputs' number through a reading, under the assignment, which is read here.
 fn evaluate_reading(rt: &HostRuntime, records: &[u8], c: Counts) -> Outcome {
     match input::read_number(rt) {
-        Word::Number(assignment) => valued(rt, reading::evaluated_as(
-            records, c.inputs, c.gates, c.outputs, assignment,
-        )),
+        Word::Number(assignment) => valued(
+            rt,
+            reading::evaluated_as(records, c.inputs, c.gates, c.outputs, assignment),
+        ),
         Word::Not(fault) => Outcome::Not(fault),
     }
 }
 
 // Operation 8: size and depth through a reading.
 fn report_reading(rt: &HostRuntime, records: &[u8], c: Counts) -> Outcome {
-    reported(rt, reading::reported_as(records, c.inputs, c.gates, c.outputs))
+    reported(
+        rt,
+        reading::reported_as(records, c.inputs, c.gates, c.outputs),
+    )
 }
 
 // Operation 25: the length of a function's network, and the buffer that it is written to.
@@ -208,7 +225,9 @@ fn network(rt: &HostRuntime, number: u32, out: &mut [u8]) -> Outcome {
 }
 
 // The reply of a script, the table as it left it, and then each place that was lent, which the bytes give and take.
-fn run_followed(rt: &HostRuntime, table: &mut [u8],
+fn run_followed(
+    rt: &HostRuntime,
+    table: &mut [u8],
     used: usize,
     steps: &[u8],
     bytes: &mut [u8; MOST_BYTES],
@@ -228,7 +247,14 @@ fn follow_by(rt: &HostRuntime, table: &mut [u8], used: usize, steps: &[u8]) -> O
     let mut bytes = io::large_buffer();
     let mut places = [0u16; MOST_PLACES];
     match places::read_places(rt, &mut bytes, 2) {
-        Part::Bytes(count) => run_followed(rt, table, used, steps, &mut bytes, &mut places[..count]),
+        Part::Bytes(count) => run_followed(
+            rt,
+            table,
+            used,
+            steps,
+            &mut bytes,
+            &mut places[..count],
+        ),
         Part::Not(fault) => Outcome::Not(fault),
     }
 }
@@ -265,7 +291,9 @@ fn answered(table: &[u8], used: usize, asked: Asked, places: &mut [u64]) -> Repl
 }
 
 // How many places were written, and then each that was lent, which the bytes give and take.
-fn place(rt: &HostRuntime, table: &[u8],
+fn place(
+    rt: &HostRuntime,
+    table: &[u8],
     used: usize,
     asked: Asked,
     bytes: &mut [u8; MOST_BYTES],

@@ -3,7 +3,7 @@ ghost use Rattle.std.specs.Prelude.{◌+◌, ◌≤◌, length};
 ghost use Rattle.majpipe.specs.inner.Part.{Few};
 
 use crate::input::{Fault, Part, Word, read_bytes, read_number};
-use program::{STDOUT_FILENO};
+use program::STDOUT_FILENO;
 
 // The most places that a request may have, and the most bytes that they take.
 pub const MOST_PLACES: usize = 8192;

@@ -2,7 +2,7 @@
 ghost use Rattle.std.specs.Prelude.{◌≡◌};
 ghost use Rattle.text.specs.Shown.{with_word, four_bytes};
 
-use program::{STDOUT_FILENO};
+use program::STDOUT_FILENO;
 use refusals::Refusal;
 use text::Line;
 
