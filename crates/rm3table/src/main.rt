@@ -7,6 +7,7 @@ use rm3::Translated;
 use translation::Mode;
 
 // Writes the RM3 table of the first used bytes, which are the table.
+#[tactic(auto, using(rm3::proofs::Replies::reply_fits))]
 fn answer(program: Program<'_>, mode: Mode, table: &[u8; program::MOST_BYTES], used: usize) -> End {
     let mut out = [0u8; rm3::MOST_BYTES];
     match rm3::translate(mode, table, used, &mut out) {
