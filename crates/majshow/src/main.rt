@@ -50,7 +50,12 @@ fn shown(r: Record, number: usize, inputs: usize) -> Line {
 }
 
 // Shows each record, the first being node 1, until a line cannot be written.
-fn show(program: Program<'_>, table: &[u8; program::MOST_BYTES], records: usize, inputs: usize) -> End {
+fn show(
+    program: Program<'_>,
+    table: &[u8; program::MOST_BYTES],
+    records: usize,
+    inputs: usize,
+) -> End {
     let mut i: usize = 0;
     while i < records {
         let r = tables::record_at(table, i);
