@@ -1,5 +1,5 @@
 -- Levels worked out in an array of 16-bit numbers, one a node (SPEC 2.4): of any array and any records.
-use Rattle.std.specs.Prelude.{ℕ, zero, suc, ◌-◌, ◌%◌, List, set, nat_lt, slice_index, slice_set, if◌then◌else◌}
+use Rattle.std.specs.Prelude.{ℕ, zero, suc, ◌-◌, ◌%◌, List, nat_lt, slice_index, slice_set, if◌then◌else◌}
 use Rattle.majority.specs.Edge.{node_of}
 use Rattle.majority.specs.Table.{record_at}
 use Rattle.majority.specs.Level.{above}

@@ -12,7 +12,7 @@ use Rattle.tables.specs.Bytes.{record_in, records_of, put_record}
 use Rattle.tables.proofs.HoldsFirst.{HoldsFirst, mixed, mixed_low, mixed_high, first_same, first_down}
 use Rattle.editing.specs.Edited.{raise16}
 use Rattle.editing.proofs.Loops.{read}
-use Rattle.rewriting.specs.inner.Copied.{above, copy_edge, copying_of, replaced_by, rise_by, copied_by, Copyable, Copied}
+use Rattle.rewriting.specs.inner.Copied.{above, copy_edge, copying_of, replaced_by, rise_by, copied_by, Copied}
 use Rattle.rewriting.proofs.Edits.{same_edges}
 
 -- an edge, by two comparisons

@@ -1,5 +1,5 @@
 -- The places of followed gates after a step, by its rule; each then holds 0 or an edge to a gate of the table that the step leaves.
-use Rattle.std.proofs.Common.{◌≡◌, ℕ, suc, ◌+◌, ◌-◌, ◌*◌, ◌/◌, ◌<◌, ◌≤◌, Bool, true, false, ltb, List, [], length, get_or, sym, refl, ap, ◌∙◌, arith}
+use Rattle.std.proofs.Common.{◌≡◌, ℕ, suc, ◌+◌, ◌*◌, ◌/◌, ◌<◌, ◌≤◌, Bool, true, false, ltb, List, [], length, get_or, sym, refl, ap, ◌∙◌, arith}
 use Rattle.refusals.specs.Why.{Why, why}
 use Rattle.refusals.specs.Reply.{Reply, accepted, refused, and_then}
 use Rattle.std.specs.Prelude.{if◌then◌else◌}

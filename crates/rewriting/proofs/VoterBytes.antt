@@ -1,15 +1,15 @@
 -- What making room, three copies and the vote leave in the buffer: the table that a voter makes. The copies are made from the last down, so
 -- that above where they stand the new table is there, and below what was there when room was made.
-use Rattle.std.proofs.Common.{◌≡◌, ℕ, suc, ◌+◌, ◌-◌, ◌*◌, ◌/◌, ◌%◌, ◌<◌, ◌≤◌, Bool, true, false, leb, List, length, drop, sym, refl, ap, ◌∙◌, subst, arith, le-ltb, lt-ltb, leb-true}
+use Rattle.std.proofs.Common.{◌≡◌, ℕ, suc, ◌+◌, ◌-◌, ◌*◌, ◌/◌, ◌%◌, ◌<◌, ◌≤◌, true, false, leb, List, length, sym, ap, ◌∙◌, subst, arith, le-ltb, lt-ltb, leb-true}
 use native.Mathlib.Decide.{dec_lt}
 use Rattle.majority.specs.Edge.{node_of, raise, redirect}
-use Rattle.majority.specs.Table.{gate, record_at, Below}
-use Rattle.majority.specs.Edit.{edges, node_record, redirect_all, insert, become}
+use Rattle.majority.specs.Table.{record_at}
+use Rattle.majority.specs.Edit.{edges, node_record, insert, become}
 use Rattle.majority.specs.declared.Record.{Record}
 use Rattle.majority.specs.declared.Counts.{Counts}
 use Rattle.majority.proofs.Logic.{both}
 use Rattle.rules.specs.Rules.{plain}
-use Rattle.rules.specs.Voter.{edge_to, pair_in, pair_gate, pair_polarity, voter_form, Copy, own, in_block, block_of, copied, root, first_copy, second_copy, third_copy, copies, votes, voter}
+use Rattle.rules.specs.Voter.{edge_to, pair_in, pair_gate, pair_polarity, voter_form, Copy, own, in_block, block_of, root, first_copy, second_copy, third_copy, copies, votes, voter}
 use Rattle.rules.proofs.Raise.{raise_below, raise_from}
 use Rattle.rules.proofs.Edges.{redirect_lowers}
 use Rattle.rules.proofs.Redirect.{redirected_at}
@@ -18,13 +18,13 @@ use Rattle.rules.proofs.Copies.{CopyIn, there, copy_reads}
 use Rattle.rules.proofs.Voter.{first_in, second_in, third_in, thrice}
 use Rattle.tables.specs.Bytes.{record_in, decode, table_of, records_of, put_record, holding}
 use Rattle.tables.specs.Sound.{table_in}
-use Rattle.tables.proofs.Decoded.{length_decode, decode_at, length_table, table_at}
+use Rattle.tables.proofs.Decoded.{length_decode, decode_at, table_at}
 use Rattle.tables.proofs.Encoded.{Bytes}
 use Rattle.tables.proofs.HoldsFirst.{HoldsFirst, mixed, mixed_low, mixed_high}
 use Rattle.editing.specs.Edited.{raise16, grown, no_room_of, inserted_at, room_at}
 use Rattle.editing.proofs.Changed.{grown_length, grown_low, grown_new, grown_high}
-use Rattle.editing.proofs.Inserted.{Inserted, inserted_start, inserted_end}
-use Rattle.rewriting.specs.inner.Fitting.{AtGate, Room, Votable}
+use Rattle.editing.proofs.Inserted.{inserted_start, inserted_end}
+use Rattle.rewriting.specs.inner.Fitting.{Votable}
 use Rattle.rewriting.specs.inner.Copied.{above, copy_edge, copying_of, copied_by, Copyable, Copied}
 use Rattle.rewriting.proofs.Gate.{node_at, at_formed, at_small, at_length}
 use Rattle.rewriting.proofs.Edits.{same_edges}

@@ -10,7 +10,7 @@ use Rattle.majority.specs.Edge.{flip}
 use Rattle.majority.specs.Node.{Meaning, edge_worth, worth}
 use Rattle.majority.specs.Value.{majority_of, values, value}
 use Rattle.majority.specs.Level.{levels}
-use Rattle.majority.specs.Edit.{node_record, redirect_all}
+use Rattle.majority.specs.Edit.{node_record}
 use Rattle.rules.specs.Rules.{plain, majority_form, majority_rule, share_form, share, opposite_form, opposite}
 use Rattle.rules.specs.Kept.{in_place, NodesKept}
 use Rattle.majority.specs.declared.Record.{Record}

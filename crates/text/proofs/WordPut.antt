@@ -1,9 +1,8 @@
 -- A word is put behind the first bytes of a room, byte for byte, as far as the room goes: what is left of the word decides.
-use Prim.Native.Nat.{ℕ, ◌+◌, ◌-◌, ◌≤◌, ◌<◌, min, max}
-use mathlib.Core.Path.{◌≡◌, ap, sym, ◌∙◌}
+use Prim.Native.Nat.{ℕ, ◌+◌, ◌≤◌, ◌<◌, min, max}
+use mathlib.Core.Path.{◌≡◌}
 use mathlib.Core.List.{List, ◌++◌, append-nil}
 use native.Mathlib.Numerals.{add-one}
-use native.Mathlib.Nat.{max-eq_left, max-eq_right, min-eq_left, min-eq_right}
 use native.Mathlib.Omega.{arith}
 use lib.ListN.{length, take, drop, set, get_or, length-take, length-drop, length-set, drop_of_length-le, take-append-drop}
 use lib.Seq.{append_snoc, drop-cons, take-suc-set, take_all, take-append_seam, drop-set-lt}

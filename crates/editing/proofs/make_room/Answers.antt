@@ -1,6 +1,6 @@
 -- `editing::make_room` meets its contract. The first loop's invariant: as many records as are done have moved up, and those below are as they were. The second
 -- loop's: if that was so where it began, it is so.
-use Rattle.std.proofs.Common.{◌+◌, ◌-◌, false, sym, ◌∙◌, arith, rules}
+use Rattle.std.proofs.Common.{◌+◌, ◌-◌, sym, ◌∙◌, arith, rules}
 use Rattle.editing.proofs.Loops.{has_room, move_start, move_next}
 use Rattle.editing.proofs.make_room.Goals as goal
 

@@ -3,7 +3,6 @@ use Rattle.std.specs.Prelude.{◌≡◌, ℕ, suc, ◌+◌, ◌-◌, ◌*◌, �
 use Rattle.majority.specs.Edge.{flip, redirect}
 use Rattle.majority.specs.Edit.{edges}
 use Rattle.rules.specs.Voter.{in_block}
-use Rattle.majority.specs.declared.Record.{Record}
 use Rattle.tables.specs.Bytes.{record_in}
 use Rattle.editing.specs.Edited.{raise16}
 use Rattle.rewriting.specs.declared.voting.Change.{Change}
