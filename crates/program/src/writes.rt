@@ -1,14 +1,27 @@
 // Writing all of some bytes.
 use crate::{STDERR_FILENO, STDOUT_FILENO};
 use std::fs::OpenOptions;
-use std::io;
 use std::io::Write;
+use text::Line;
 
-// The file that is open under this number, where it is no standard one: what is written stands at its end.
-fn write_numbered(rt: &HostRuntime, fd: i32, bytes: &[u8]) -> io::Result<()> {
-    let path = format!(in rt.alloc(); "/dev/fd/{fd}")?;
-    let mut file = OpenOptions::new().append(true).open(rt, &path)?;
-    file.write_all(bytes)
+// The same to a file that is open under another number: what is written stands at its end.
+fn write_numbered(rt: &HostRuntime, fd: i32, bytes: &[u8]) -> bool {
+    if fd < 0 {
+        return false;
+    }
+    let path = Line::empty().word(b"/dev/fd/").number(fd as u64);
+    let name = path.bytes();
+    let len = path.length();
+    if name.len() < len {
+        return false;
+    }
+    let Ok(name) = str::from_utf8(&name[..len]) else {
+        return false;
+    };
+    match OpenOptions::new().append(true).open(rt, name) {
+        Ok(mut file) => file.write_all(bytes).is_ok(),
+        Err(_) => false,
+    }
 }
 
 // Writes all of the bytes and answers true, or stops at the first write that fails or takes nothing. A write that a signal came between
@@ -20,5 +33,5 @@ pub fn write_whole(rt: &HostRuntime, fd: i32, bytes: &[u8]) -> bool {
     if fd == STDERR_FILENO {
         return rt.stderr().write_all(bytes).is_ok();
     }
-    write_numbered(rt, fd, bytes).is_ok()
+    write_numbered(rt, fd, bytes)
 }
