@@ -1,6 +1,6 @@
 /*
  * Pulpgarnet for C and C++: majority tables, rewriting steps and scripts, RM3 tables, and the catalogue of three-input functions
- * (docs/SPEC.md). `rt staticlib pulpgarnet` writes the archive, target/staticlib/libpulpgarnet.a, for x86-64.
+ * (docs/SPEC.md). README.md says how the archive is written, target/staticlib/libpulpgarnet.a, for x86-64-v2.
  *
  * A buffer is a pointer and its length in bytes, or of numbers a pointer and their count. The pointer is never null, also at length 0,
  * and has so much behind it.

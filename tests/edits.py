@@ -1,153 +1,52 @@
 #!/usr/bin/env python3
-"""edits.py [--whole] [CRATE | CRATE/EDIT | CRATE=FILE ..]: tries the edits crates/CRATE/must-fail/quick/EDIT.edit (all, or the named
-ones, or those of other files) on the crates as they were last proved. The prover must refuse each.
+"""edits.py [--whole] [CRATE | CRATE/EDIT | CRATE=FILE ..]: tries the edits crates/CRATE/must-fail/EDIT.edit (all, or the named ones, or those
+of other files) by `rt must-fail`, in a copy of the crates. The prover must refuse each. `rt ci` tries all that stand in must-fail/, and
+`rt must-fail` takes from it what it tried; --whole takes nothing from an earlier run.
 
-An edit is written as rt's are: after 'file: F', each pair 'old: TEXT' and 'new: TEXT' puts one text of that file for another that
-stands in it once. For each of its edits rt checks the whole crate. Here an edit is checked over what the proof of the crate has
-left, so that only what depends on the edited text is checked again; --whole does as rt does.
-
-An edit passes where the crate is not proved with it, and what the prover names first is a fact that is not so. Where the proof
-only no longer fits the code's shape, or the definition is none any more, the edit shows nothing and fails. What the prover said is in target/quick/CRATE/EDIT.log.
+An edit fails that cannot be applied or read, and one that is refused only because a proof no longer fits the code's shape: a goal is named
+after the code before it, and where the code changes its shape the goal's answer has no goal any more. `rt must-fail` says of an edit the
+first place alone. Where that is a goal of which it is not said that it is false, or a definition, all that the check says is read.
+What the prover said is in target/edits/CRATE.log and, where it was read whole, in target/edits/CRATE/EDIT.log.
 """
-import concurrent.futures, os, pathlib, re, shutil, subprocess, sys, tempfile, time
+import concurrent.futures, os, pathlib, re, shutil, subprocess, sys, tempfile
 
 ROOT = pathlib.Path(__file__).resolve().parent.parent
-CRATES, RLIBS, LOGS = ROOT / "crates", ROOT / "target" / "rlib", ROOT / "target" / "quick"
+CRATES, LOGS = ROOT / "crates", ROOT / "target" / "edits"
 PARTS = ("src", "specs", "proofs")
-# what the prover says where a proof or an edit names something that is not there, or leaves out what is
+SAID = re.compile(r"(?:rt: )?must-fail (\w+)/(\S+)\.edit: (refused, as it must be|NOT REFUSED|NOT TRIED|BAD EDIT)(?: \([^)]*\))?(?:: )?(.*)")
+FALSE = "the facts known there allow values at which"
+# a line in which a proof names what is not there, or leaves out what is
 SHAPE = re.compile(
-    r"that can be named from here|is not in scope|has no field|missing field|expected type `tie\.Need-"
-    r"|explicit arguments? but the pattern|is given \d+ argument|cannot continue the declaration|this pattern needs a function")
-
-
-class BadEdit(Exception):
-    pass
+    r"(?:has no|is not in scope|can be named from here|was not admitted|missing field|explicit arguments? but the pattern"
+    r"|is given \d+ argument|cannot continue the declaration|this pattern needs a function)")
+ERROR = re.compile(r"^(?:\./)?(proofs/\S+): error: (.*)$", re.M)
 
 
 def listed():
-    """The crates of crates.txt, each with the crates that it uses."""
-    lines = (line.partition("#")[0] for line in (ROOT / "crates.txt").read_text().splitlines())
-    pairs = (line.partition(":") for line in lines if line.strip())
-    return {name.strip(): uses.split() for name, _, uses in pairs}
+    """The crates of crates.txt, each with its line and the crates that it uses."""
+    lines = (line.partition("#")[0].strip() for line in (ROOT / "crates.txt").read_text().splitlines())
+    return {line.split()[0].rstrip(":"): (line, line.partition(":")[2].split()) for line in lines if line}
 
 
-def copied(crate, folder):
-    """A copy of the crate, in a folder of its name, from which rt takes the name."""
-    to = folder / crate
-    for part in PARTS:
-        if (CRATES / crate / part).is_dir():
-            shutil.copytree(CRATES / crate / part, to / part)
-    return to
+def below(crate, crates):
+    """The crate and all that it uses of the repository."""
+    found = {crate}
+    for used in crates[crate][1]:
+        if used in crates and used not in found:
+            found |= below(used, crates)
+    return found
 
 
-def apply(edit, to):
-    """Makes an edit's replacements in the copy."""
-    name = old = None
-    pairs = 0
-    for line in edit.read_text().splitlines():
-        word, _, text = line.partition(" ")
-        if word == "file:":
-            name = text
-        elif word == "old:":
-            old = text
-        elif word == "new:":
-            if not name or not old:
-                raise BadEdit("a 'new:' line has no 'file:' or no 'old:' line before it")
-            steps = name.split("/")
-            if steps[0] not in PARTS or ".." in steps or not (to / name).is_file():
-                raise BadEdit(f"the crate has no file {name}")
-            before = (to / name).read_text()
-            if before.count(old) != 1:
-                raise BadEdit(f"an 'old:' text is in {name} {before.count(old)} times")
-            (to / name).write_text(before.replace(old, text))
-            old, pairs = None, pairs + 1
-    if pairs == 0:
-        raise BadEdit("it has no 'old:' and 'new:' pair")
-
-
-def check(copy, uses, left, log):
-    """Checks a crate's copy, over what an earlier check left where that is given: the status, and what was said."""
-    words = ["rt", "check", str(copy)]
-    kit = [used for used in uses if not (CRATES / used).is_dir()]
-    if kit:
-        words += ["--deps", ",".join(kit)]
-    for used in uses:
-        if used not in kit:
-            words += ["--extern", f"{used}={RLIBS / used}.rlib"]
-    words += ["-L", f"dependency={RLIBS}"]
-    if left:
-        words += ["--incremental", str(left)]
-    done = subprocess.run(words, cwd=ROOT, stdin=subprocess.DEVNULL, stdout=subprocess.PIPE, stderr=subprocess.STDOUT, text=True)
-    log.parent.mkdir(parents=True, exist_ok=True)
-    log.write_text(done.stdout)
-    return done.returncode, done.stdout
-
-
-def kept(room):
-    """The name of the folder in which the prover keeps what it has checked, as an empty crate shows it; None where it keeps nothing."""
-    (room / "empty" / "src").mkdir(parents=True)
-    (room / "empty" / "src" / "lib.rt").touch()
-    check(room / "empty", [], room / "shown", LOGS / "empty.log")
-    names = [path.name for path in room.glob("shown/*")]
-    return names[0] if len(names) == 1 else None
-
-
-def prepared(crate, uses, name, room):
-    """Checks the crate as it stands; the folder with what that left. What the crate's proof has checked is in its rlib, and is laid
-    where the prover looks for it; what is not found there is checked here, which only takes longer."""
-    folder = room / crate
-    left, checked = folder / "left", RLIBS / f"{crate}.rlib" / "toolchain" / "checked"
-    if name and checked.is_dir():
-        shutil.copytree(checked, left / name)
-    status, said = check(copied(crate, folder), uses, left, LOGS / crate / "as-it-stands.log")
-    if status != 0 or not re.search("^logic=proved", said, re.M):
-        raise BadEdit("the crate is not proved as it stands")
-    return left
-
-
-def refused(crate, uses, edit, left, room):
-    """Where the prover refuses the edit first."""
-    folder = pathlib.Path(tempfile.mkdtemp(dir=room))
-    copy = copied(crate, folder)
-    apply(edit, copy)
-    if left:
-        left = shutil.copytree(left, folder / "left")
-    status, said = check(copy, uses, left, LOGS / crate / f"{edit.stem}.log")
-    shutil.rmtree(folder)
-    if status == 0:
-        raise BadEdit("NOT REFUSED: the crate is proved with it")
-    if status != 1 or not re.search("^logic=not-proved", said, re.M):
-        raise BadEdit(f"it does not reach the prover (status {status})")
-    first = re.search(r"^(\S+): error: (.*)$", said, re.M) or re.search(r"^note: (\S+:\d+:\d+): (.*)$", said, re.M)
-    if not first:
-        raise BadEdit("the prover names no place")
-    at = first[1].removeprefix(f"{copy}/")
-    if SHAPE.search(first[2]) or at.startswith("specs/"):
-        raise BadEdit(f"refused for its shape alone, at {at}")
-    return at
-
-
-def tried(crate, uses, edit, preparing, room):
-    """Whether the edit passes, and a line that says so."""
-    try:
-        left = preparing and preparing.result()
-        began = time.monotonic()
-        at = refused(crate, uses, edit, left, room)
-        return True, f"{crate}/{edit.stem}: refused, first at {at} ({time.monotonic() - began:.0f} s)"
-    except BadEdit as e:
-        return False, f"{crate}/{edit.stem}: FAILED: {e}"
-
-
-def chosen(words, uses):
+def chosen(words, crates):
     """The edits that the words name, each with its crate."""
-    stored = [(crate, path) for crate in uses for path in sorted((CRATES / crate / "must-fail" / "quick").glob("*.edit"))]
+    stored = [(crate, path) for crate in crates for path in sorted((CRATES / crate / "must-fail").glob("*.edit"))]
     if not words:
         return stored
     edits = []
     for word in words:
         crate, _, file = word.partition("=")
         named = [(c, p) for c, p in stored if word in (c, f"{c}/{p.stem}")]
-        if not named and crate in uses and pathlib.Path(file).is_file():
+        if not named and crate in crates and pathlib.Path(file).is_file():
             named = [(crate, pathlib.Path(file))]
         if not named:
             sys.exit(f"edits: '{word}' names no edit; usage: edits.py [--whole] [CRATE | CRATE/EDIT | CRATE=FILE ..]")
@@ -155,24 +54,93 @@ def chosen(words, uses):
     return edits
 
 
+def laid(crate, edits, crates, room):
+    """A copy of the crate and those below it, with these edits alone."""
+    names = below(crate, crates)
+    (room / "crates.txt").write_text("".join(line + "\n" for name, (line, _) in crates.items() if name in names))
+    for name in names:
+        for part in PARTS:
+            if (CRATES / name / part).is_dir():
+                shutil.copytree(CRATES / name / part, room / "crates" / name / part)
+    to = room / "crates" / crate / "must-fail"
+    to.mkdir(exist_ok=True)
+    for edit in edits:
+        shutil.copy(edit, to)
+
+
+def rt(words, folder, log):
+    done = subprocess.run(["rt", *words], cwd=folder, stdin=subprocess.DEVNULL, stdout=subprocess.PIPE, stderr=subprocess.STDOUT, text=True, errors="replace")
+    log.parent.mkdir(parents=True, exist_ok=True)
+    log.write_text(done.stdout)
+    return done.stdout
+
+
+def applied(edit, folder):
+    """Makes the replacements of an edit that fits; the files as they were."""
+    before, name, old = {}, None, None
+    for line in edit.read_text().splitlines():
+        word, _, text = line.partition(" ")
+        if word == "file:":
+            name = folder / text
+        elif word == "old:":
+            old = text
+        elif word == "new:":
+            before.setdefault(name, name.read_text())
+            name.write_text(name.read_text().replace(old, text))
+    return before
+
+
+def shown(crate, edit, room):
+    """Whether the check of the edited crate says that something is false, and not only that a proof names what is not there."""
+    folder = room / "crates" / crate
+    before = applied(edit, folder)
+    said = rt(["check"], folder, LOGS / crate / f"{edit.stem}.log")
+    for file, text in before.items():
+        file.write_text(text)
+    errors = ERROR.findall(said)
+    return FALSE in said or any(not SHAPE.search(text) for _, text in errors) or not errors
+
+
+def judged(crate, edit, kind, rest, room):
+    """Whether an edit passes, and what is said of it."""
+    if kind != "refused, as it must be":
+        return False, f"FAILED: {kind}" + (f": {rest}" if kind != "NOT REFUSED" else "")
+    at = rest.removeprefix("note: ").split(": ")[0]
+    sure = FALSE in rest or at.startswith("proofs/") and not SHAPE.search(rest)
+    if "only because a proof file names" in rest or not sure and not shown(crate, edit, room):
+        return False, f"FAILED: refused for its shape alone, at {at}"
+    return True, f"refused, first at {at}"
+
+
+def tried(crate, edits, crates, whole):
+    """Of each of a crate's edits whether it passes, and a line."""
+    with tempfile.TemporaryDirectory() as folder:
+        room = pathlib.Path(folder)
+        laid(crate, edits, crates, room)
+        said = rt(["must-fail", crate] + ["--anew"] * whole, room, LOGS / f"{crate}.log")
+        found = {m[2]: (m[3], m[4]) for m in map(SAID.match, said.splitlines()) if m}
+        lines = []
+        for edit in edits:
+            kind, rest = found.get(edit.stem, ("NOT TRIED", f"target/edits/{crate}.log says why"))
+            passed, line = judged(crate, edit, kind, rest, room)
+            lines.append((passed, f"{crate}/{edit.stem}: {line}"))
+        return lines
+
+
 def main(words):
     if not shutil.which("rt"):
         sys.exit("edits: the Rattle kit's command rt is not on the PATH")
     whole = "--whole" in words
-    uses = listed()
-    edits = chosen([word for word in words if word != "--whole"], uses)
+    crates = listed()
+    edits = chosen([word for word in words if word != "--whole"], crates)
     failed = 0
-    (ROOT / "target").mkdir(exist_ok=True)
-    with tempfile.TemporaryDirectory(dir=ROOT / "target") as folder, concurrent.futures.ThreadPoolExecutor(os.cpu_count()) as pool:
-        room = pathlib.Path(folder)
-        crates = [] if whole else dict.fromkeys(crate for crate, _ in edits)
-        name = None if whole else kept(room)
-        preparing = {crate: pool.submit(prepared, crate, uses[crate], name, room) for crate in crates}
-        trials = [pool.submit(tried, crate, uses[crate], edit, preparing.get(crate), room) for crate, edit in edits]
+    with concurrent.futures.ThreadPoolExecutor(os.cpu_count()) as pool:
+        names = dict.fromkeys(crate for crate, _ in edits)
+        trials = [pool.submit(tried, name, [edit for crate, edit in edits if crate == name], crates, whole) for name in names]
         for trial in trials:
-            passed, line = trial.result()
-            failed += not passed
-            print(line, flush=True)
+            for passed, line in trial.result():
+                failed += not passed
+                print(line, flush=True)
     print(f"{len(edits) - failed} passed, {failed} failed")
     return failed > 0
 

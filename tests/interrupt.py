@@ -8,6 +8,7 @@ ROOT = pathlib.Path(__file__).resolve().parent.parent
 COPIED = ("crates", "crates.txt", "run", "install", "test", "tools")
 # as rt does, it has what takes long done by background processes of a shell
 RT = """#!/bin/sh
+cd "${PWD%/crates/*}"
 mktemp >/dev/null
 sleep 3600 &
 echo $! >prover.new
@@ -96,8 +97,10 @@ def main():
         for name in ("tree", "bin", "tmp"):
             (room / name).mkdir()
         for name in COPIED:
-            copy = shutil.copytree if (ROOT / name).is_dir() else shutil.copy
-            copy(ROOT / name, room / "tree" / name)
+            if (ROOT / name).is_dir():
+                shutil.copytree(ROOT / name, room / "tree" / name, ignore=shutil.ignore_patterns("out"))
+            else:
+                shutil.copy(ROOT / name, room / "tree" / name)
         (room / "bin" / "rt").write_text(RT)
         (room / "bin" / "rt").chmod(0o755)
         for words in (["./run", "majcheck"], ["./install", str(room / "to")], ["./test"]):

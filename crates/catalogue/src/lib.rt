@@ -109,7 +109,8 @@ pub fn catalogue(number: u32, out: &mut [u8]) -> Catalogued
     ensures reply { said_catalogue result ≡ catalogue_of number (length out.old) }
     ensures bytes { out.new ≡ catalogue_bytes number out.old }
 {
-    if HIGHEST < number {
+    let past = HIGHEST < number;
+    if past {
         return Catalogued::Refused(Refusal::Function);
     }
     let entry = entry_of(number);

@@ -4,9 +4,10 @@ use std::fs::OpenOptions;
 use std::io::Write;
 use text::Line;
 
-// The same to a file that is open under another number: what is written stands at its end.
+// The same to a file that is open under another number, and not to standard input. It is opened anew: what is written stands at its end, and
+// it is opened to be read as well, since a pipe that nobody reads would else be waited for.
 fn write_numbered(rt: &HostRuntime, fd: i32, bytes: &[u8]) -> bool {
-    if fd < 0 {
+    if fd < 1 {
         return false;
     }
     let path = Line::empty().word(b"/dev/fd/").number(fd as u64);
@@ -18,7 +19,7 @@ fn write_numbered(rt: &HostRuntime, fd: i32, bytes: &[u8]) -> bool {
     let Ok(name) = str::from_utf8(&name[..len]) else {
         return false;
     };
-    match OpenOptions::new().append(true).open(rt, name) {
+    match OpenOptions::new().read(true).append(true).open(rt, name) {
         Ok(mut file) => file.write_all(bytes).is_ok(),
         Err(_) => false,
     }

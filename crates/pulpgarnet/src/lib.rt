@@ -1,4 +1,4 @@
-// The static library: every call for C, on pointers with lengths (include/pulpgarnet.h). Each reply is a struct of numbers.
+// Every call as C has it, each reply a struct of numbers (include/pulpgarnet.h). The crate pulpgarnet_c makes the archive of them.
 #![tactic(auto)]
 
 ghost use Rattle.std.specs.Prelude.{◌≡◌, [], length};

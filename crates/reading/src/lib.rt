@@ -17,7 +17,7 @@ use tables::{Checked, check_as};
 use translation::Mode;
 
 // Nothing of a reading is trusted: each question checks the records and the counts again.
-#[derive(Drop)]
+#[derive(Clone, Copy)]
 pub struct Reading<'a> {
     records: &'a [u8],
     inputs: usize,
