@@ -5,7 +5,8 @@ of other files) by `rt must-fail`, in a copy of the crates. The prover must refu
 
 An edit fails that cannot be applied or read, and one that is refused only because a proof no longer fits the code's shape: a goal is named
 after the code before it, and where the code changes its shape the goal's answer has no goal any more. `rt must-fail` says of an edit the
-first place alone. Where that is a goal of which it is not said that it is false, or a definition, all that the check says is read.
+first place alone. Where that is a definition, or a goal of which it is not said that it is false, in a function that has proof files, all that
+the check says is read.
 What the prover said is in target/edits/CRATE.log and, where it was read whole, in target/edits/CRATE/EDIT.log.
 """
 import concurrent.futures, os, pathlib, re, shutil, subprocess, sys, tempfile
@@ -14,7 +15,8 @@ ROOT = pathlib.Path(__file__).resolve().parent.parent
 CRATES, LOGS = ROOT / "crates", ROOT / "target" / "edits"
 PARTS = ("src", "specs", "proofs")
 SAID = re.compile(r"(?:rt: )?must-fail (\w+)/(\S+)\.edit: (refused, as it must be|NOT REFUSED|NOT TRIED|BAD EDIT)(?: \([^)]*\))?(?:: )?(.*)")
-FALSE = "the facts known there allow values at which"
+# of a goal that is false; `rt must-fail` cuts what it says after so many letters
+FALSE = "; the facts known"
 # a line in which a proof names what is not there, or leaves out what is
 SHAPE = re.compile(
     r"(?:has no|is not in scope|can be named from here|was not admitted|missing field|explicit arguments? but the pattern"
@@ -101,12 +103,20 @@ def shown(crate, edit, room):
     return FALSE in said or any(not SHAPE.search(text) for _, text in errors) or not errors
 
 
+def proof_files(crate, at):
+    """Whether the function at a place of src/ has files in proofs/."""
+    file, line, *_ = at.split(":")
+    before = (CRATES / crate / file).read_text().splitlines()[: int(line)]
+    names = [found[1] for found in map(re.compile(r"\s*(?:pub(?:\(crate\))? )?(?:const )?(?:extern \"C\" )?fn (\w+)").match, before) if found]
+    return bool(names) and any((CRATES / crate / "proofs").glob(f"**/{names[-1]}/*.antt"))
+
+
 def judged(crate, edit, kind, rest, room):
     """Whether an edit passes, and what is said of it."""
     if kind != "refused, as it must be":
         return False, f"FAILED: {kind}" + (f": {rest}" if kind != "NOT REFUSED" else "")
-    at = rest.removeprefix("note: ").split(": ")[0]
-    sure = FALSE in rest or at.startswith("proofs/") and not SHAPE.search(rest)
+    at = rest.removeprefix("note: ").removeprefix("./").split(": ")[0]
+    sure = FALSE in rest or at.startswith("proofs/") and not SHAPE.search(rest) or at.startswith("src/") and not proof_files(crate, at)
     if "only because a proof file names" in rest or not sure and not shown(crate, edit, room):
         return False, f"FAILED: refused for its shape alone, at {at}"
     return True, f"refused, first at {at}"
