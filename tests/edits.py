@@ -14,7 +14,8 @@ import concurrent.futures, os, pathlib, re, shutil, subprocess, sys, tempfile
 ROOT = pathlib.Path(__file__).resolve().parent.parent
 CRATES, LOGS = ROOT / "crates", ROOT / "target" / "edits"
 PARTS = ("src", "specs", "proofs")
-SAID = re.compile(r"(?:rt: )?must-fail (\w+)/(\S+)\.edit: (refused, as it must be|NOT REFUSED|NOT TRIED|BAD EDIT)(?: \([^)]*\))?(?:: )?(.*)")
+# the crate, the edit, what it came to, why that says little, the first place
+SAID = re.compile(r"(?:rt: )?must-fail (\w+)/(\S+)\.edit: (refused, as it must be|NOT REFUSED|NOT TRIED|BAD EDIT)(?: \((only [^)]*)\))?(?:: )?(.*)")
 # of a goal that is false; `rt must-fail` cuts what it says after so many letters
 FALSE = "; the facts known"
 # a line in which a proof names what is not there, or leaves out what is
@@ -111,13 +112,15 @@ def proof_files(crate, at):
     return bool(names) and any((CRATES / crate / "proofs").glob(f"**/{names[-1]}/*.antt"))
 
 
-def judged(crate, edit, kind, rest, room):
+def judged(crate, edit, kind, only, rest, room):
     """Whether an edit passes, and what is said of it."""
     if kind != "refused, as it must be":
         return False, f"FAILED: {kind}" + (f": {rest}" if kind != "NOT REFUSED" else "")
     at = rest.removeprefix("note: ").removeprefix("./").split(": ")[0]
     sure = FALSE in rest or at.startswith("proofs/") and not SHAPE.search(rest) or at.startswith("src/") and not proof_files(crate, at)
-    if "only because a proof file names" in rest or not sure and not shown(crate, edit, room):
+    if only and "limit" in only:
+        return False, f"FAILED: refused by a limit of the prover alone, at {at}"
+    if only or not sure and not shown(crate, edit, room):
         return False, f"FAILED: refused for its shape alone, at {at}"
     return True, f"refused, first at {at}"
 
@@ -128,11 +131,10 @@ def tried(crate, edits, crates, whole):
         room = pathlib.Path(folder)
         laid(crate, edits, crates, room)
         said = rt(["must-fail", crate] + ["--anew"] * whole, room, LOGS / f"{crate}.log")
-        found = {m[2]: (m[3], m[4]) for m in map(SAID.match, said.splitlines()) if m}
+        found = {m[2]: m.groups()[2:] for m in map(SAID.match, said.splitlines()) if m}
         lines = []
         for edit in edits:
-            kind, rest = found.get(edit.stem, ("NOT TRIED", f"target/edits/{crate}.log says why"))
-            passed, line = judged(crate, edit, kind, rest, room)
+            passed, line = judged(crate, edit, *found.get(edit.stem, ("NOT TRIED", None, f"target/edits/{crate}.log says why")), room)
             lines.append((passed, f"{crate}/{edit.stem}: {line}"))
         return lines
 

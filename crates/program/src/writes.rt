@@ -4,8 +4,8 @@ use std::fs::OpenOptions;
 use std::io::Write;
 use text::Line;
 
-// The same to a file that is open under another number, and not to standard input. It is opened anew: what is written stands at its end, and
-// it is opened to be read as well, since a pipe that nobody reads would else be waited for.
+// Writes all of the bytes to what is open under a number above 0, and answers whether it did. It is opened anew, to be written at its end; and to be
+// read, since a pipe that nobody reads any more would else be waited for.
 fn write_numbered(rt: &HostRuntime, fd: i32, bytes: &[u8]) -> bool {
     if fd < 1 {
         return false;
