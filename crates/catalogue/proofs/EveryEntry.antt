@@ -7,8 +7,7 @@ use native.Mathlib.Omega.{arith}
 use borrow.Author.Tests.{eqb-true, leb-true}
 use lib.Dec.{eqb, leb}
 use lib.ListN.{length, get_or}
-use Rattle.refusals.specs.Reply.{Reply, accepted, refused}
-use Rattle.std.specs.Prelude.{if◌then◌else◌}
+use Rattle.std.specs.Prelude.{if◌then◌else◌, Result, Ok, Err}
 use Rattle.majority.specs.Node.{edge_worth, record_worth, worths, worth}
 use Rattle.majority.specs.Value.{bit, majority_of, output_value, number, output_number}
 use Rattle.majority.specs.Seek.{first_from}
@@ -22,22 +21,23 @@ use Rattle.rules.specs.Sweep.{member, reached}
 use Rattle.catalogue.specs.Entries.{entries}
 use Rattle.catalogue.specs.Networks.{digit, gate_count, gates_of, network_of, entry_of, network}
 use Rattle.catalogue.specs.Computes.{Computes}
+use Rattle.refusals.specs.declared.Refusal.{Refusal}
 
 -- a check was accepted with these counts
-accepted_as : Counts → Reply Counts → Bool
-accepted_as c (accepted d) = eqb d.inputs c.inputs && (eqb d.gates c.gates && eqb d.outputs c.outputs)
-accepted_as c (refused w) = false
+accepted_as : Counts → Result Counts Refusal → Bool
+accepted_as c (Ok d) = eqb d.inputs c.inputs && (eqb d.gates c.gates && eqb d.outputs c.outputs)
+accepted_as c (Err w) = false
 
-accepted_as_lem : (c : Counts) (r : Reply Counts) → accepted_as c r ≡ true → r ≡ accepted c
+accepted_as_lem : (c : Counts) (r : Result Counts Refusal) → accepted_as c r ≡ true → r ≡ Ok c
 unfolding accepted_as
-accepted_as_lem c (accepted d) t =
+accepted_as_lem c (Ok d) t =
     let i = both (eqb d.inputs c.inputs) _ t in
     let g = both (eqb d.gates c.gates) _ i.1 in
     let inputs = eqb-true _ _ i.0 in
     let gates = eqb-true _ _ g.0 in
     let outputs = eqb-true _ _ g.1 in
-    ap accepted (λ k. record { inputs = inputs k; gates = gates k; outputs = outputs k })
-accepted_as_lem c (refused w) t = absurd (true≢false (sym t))
+    ap Ok (λ k. record { inputs = inputs k; gates = gates k; outputs = outputs k })
+accepted_as_lem c (Err w) t = absurd (true≢false (sym t))
 
 -- the nodes from g on, k of them, are among those reached
 all_among : ℕ → ℕ → List ℕ → Bool

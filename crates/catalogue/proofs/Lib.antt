@@ -1,4 +1,3 @@
 mod NetworkRecords  -- the records of an entry's table, one by one
 pub mod EveryEntry  -- each entry computes its own number: one test over all of them
-pub mod SaidOnce  -- the replies are one-to-one
 pub mod Replies  -- what a reply of `catalogue` tells its caller

@@ -33,11 +33,6 @@ module _ (x : ℕ) where
   unfolding network_of
   network_length = omega (arith, length-append (gates_of x (gate_count x)) (output (digit x 1) ∷ []), gates_length (gate_count x))
 
-  -- a digit is below 16
-  pub network_small : length (network_of x) < 20
-  unfolding digit
-  network_small = omega (arith, network_length)
-
   pub input_record : (i : ℕ) → i < 3 → input ≡ record_at (network_of x) i
   unfolding network_of
   input_record zero h = refl
@@ -46,14 +41,14 @@ module _ (x : ℕ) where
   input_record (suc (suc (suc i))) h = absurd (omega arith)
 
   -- behind the gate stand as many records, the output among them
-  pub gate_record : (i behind : ℕ) → 3 ≤ i → i + behind ≡ gate_count x + 3 → (behind ≡ 0 → ⊥)
+  gate_behind : (i behind : ℕ) → 3 ≤ i → i + behind ≡ gate_count x + 3 → (behind ≡ 0 → ⊥)
       → gate 0 (digit x (3 * behind + 1)) (digit x (3 * behind)) (digit x (3 * behind - 1)) ≡ record_at (network_of x) i
   unfolding network_of
-  gate_record zero b h e n = absurd (omega arith)
-  gate_record (suc zero) b h e n = absurd (omega arith)
-  gate_record (suc (suc zero)) b h e n = absurd (omega arith)
-  gate_record (suc (suc (suc j))) zero h e n = absurd (n refl)
-  gate_record (suc (suc (suc j))) (suc b) h e n =
+  gate_behind zero b h e n = absurd (omega arith)
+  gate_behind (suc zero) b h e n = absurd (omega arith)
+  gate_behind (suc (suc zero)) b h e n = absurd (omega arith)
+  gate_behind (suc (suc (suc j))) zero h e n = absurd (n refl)
+  gate_behind (suc (suc (suc j))) (suc b) h e n =
       let first : 3 * suc b + 1 ≡ 3 * b + 4 = omega arith in
       let second : 3 * suc b ≡ 3 * b + 3 = omega arith in
       let third : 3 * suc b - 1 ≡ 3 * b + 2 = omega arith in
@@ -61,8 +56,13 @@ module _ (x : ℕ) where
       (sym (get_or-append (gates_of x (gate_count x)) (output (digit x 1) ∷ []) blank j (omega (arith, gates_length (gate_count x)))
       ∙ gate_at (gate_count x) j b (omega arith)))
 
-  pub output_record_lem : (i : ℕ) → i ≡ gate_count x + 3 → output (digit x 1) ≡ record_at (network_of x) i
+  pub gate_record : (i n e1 e2 e3 : ℕ) → e1 ≡ digit x (3 * (n - 1 - i) + 1) → e2 ≡ digit x (3 * (n - 1 - i)) → e3 ≡ digit x (3 * (n - 1 - i) - 1)
+      → n ≡ length (network_of x) → 3 ≤ i → (n - 1 - i ≡ 0 → ⊥) → gate 0 e1 e2 e3 ≡ record_at (network_of x) i
+  gate_record i n e1 e2 e3 first second third whole low some =
+      rw (first, second, third) (gate_behind i (n - 1 - i) low (omega (arith, network_length)) some)
+
+  pub output_record : (i n : ℕ) → n ≡ length (network_of x) → i < n → n - 1 - i ≡ 0 → output (digit x 1) ≡ record_at (network_of x) i
   unfolding network_of
-  output_record_lem i e =
-      let there : i ≡ suc (suc (suc (length (gates_of x (gate_count x)) + 0))) = omega (arith, gates_length (gate_count x)) in
+  output_record i n whole low last =
+      let there : i ≡ suc (suc (suc (length (gates_of x (gate_count x)) + 0))) = omega (arith, network_length, gates_length (gate_count x)) in
       rw there (sym (get_or-append-add (gates_of x (gate_count x)) (output (digit x 1) ∷ []) 0 blank))

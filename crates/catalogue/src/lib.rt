@@ -8,7 +8,6 @@ ghost use Rattle.majority.specs.Table.{record_at};
 ghost use Rattle.tables.specs.Bytes.{holding};
 ghost use Rattle.catalogue.specs.Networks.{digit as digit_of, entry_of, network_of};
 ghost use Rattle.catalogue.specs.Calls.{catalogue_of, catalogue_bytes};
-ghost use Rattle.catalogue.specs.Said.{said_catalogue};
 
 use entries::ENTRIES;
 use majority::{GATE, INPUT, OUTPUT, Record};
@@ -21,16 +20,11 @@ pub const HIGHEST: u32 = 255;
 // The most bytes that a table of the catalogue has: three inputs, seven gates and an output.
 pub const MOST_BYTES: usize = 88;
 
-#[derive(Clone, Copy)]
-pub enum Catalogued {
-    Length(usize),
-    Refused(Refusal),
-}
-
 // Hexadecimal digit k of an entry, the lowest being digit 0.
 #[tactic(auto, using(crate::proofs::NetworkRecords::digit_past), unfolding(crate::specs::Networks::digit))]
 fn digit(entry: u64, k: usize) -> u16
-    ensures { result ≡ digit_of entry k }
+    ensures digit { result ≡ digit_of entry k }
+    ensures low { result < 16 }
 {
     if 16 <= k {
         return 0;
@@ -50,13 +44,14 @@ fn entry_of(number: u32) -> u64
 // How many records an entry's table has.
 #[tactic(auto, using(crate::proofs::NetworkRecords::network_length))]
 fn records(entry: u64) -> usize
-    ensures { result ≡ length (network_of entry) }
+    ensures records { result ≡ length (network_of entry) }
+    ensures few { result < 20 }
 {
     digit(entry, 0) as usize + 4
 }
 
 // Record i of an entry's table. Of its gates the last has the lowest digits.
-#[tactic(auto, using(crate::proofs::NetworkRecords::input_record, crate::proofs::NetworkRecords::output_record_lem, crate::proofs::NetworkRecords::network_length, crate::proofs::NetworkRecords::network_small, crate::proofs::NetworkRecords::gate_record))]
+#[tactic(auto, using(crate::proofs::NetworkRecords::input_record, crate::proofs::NetworkRecords::output_record, crate::proofs::NetworkRecords::gate_record))]
 fn record_of(entry: u64, i: usize) -> Record
     requires { i < length (network_of entry) }
     ensures { result ≡ record_at (network_of entry) i }
@@ -64,20 +59,15 @@ fn record_of(entry: u64, i: usize) -> Record
     if i < 3 {
         return Record {
             kind: INPUT,
-            block: 0,
-            e1: 0,
-            e2: 0,
-            e3: 0,
+            ..Record::BLANK
         };
     }
     let behind = records(entry) - 1 - i;
     if behind == 0 {
         return Record {
             kind: OUTPUT,
-            block: 0,
             e1: digit(entry, 1),
-            e2: 0,
-            e3: 0,
+            ..Record::BLANK
         };
     }
     Record {
@@ -90,34 +80,29 @@ fn record_of(entry: u64, i: usize) -> Record
 }
 
 // Writes an entry's table, for which there is room.
-#[tactic(auto, using(tables::proofs::HoldsFirst::write_start, tables::proofs::HoldsFirst::write_next, tables::proofs::HoldsFirst::write_end))]
 fn write(entry: u64, out: &mut [u8])
     requires { 8 * length (network_of entry) ≤ length out.old }
     ensures { out.new ≡ holding (network_of entry) out.old }
 {
-    let all = records(entry);
-    let mut i = 0;
-    while i < all {
+    for i in 0..records(entry) {
         put_record(out, i, record_of(entry, i));
-        i += 1;
     }
 }
 
 // Writes the table of the function with this number to the beginning of out, and answers its length.
-#[tactic(auto, unfolding(crate::specs::Calls::catalogue_of, crate::specs::Calls::catalogue_bytes))]
-pub fn catalogue(number: u32, out: &mut [u8]) -> Catalogued
-    ensures reply { said_catalogue result ≡ catalogue_of number (length out.old) }
+#[tactic(auto, unfolding(crate::specs::Calls::network_in, crate::specs::Calls::catalogue_of, crate::specs::Calls::catalogue_bytes))]
+pub fn catalogue(number: u32, out: &mut [u8]) -> Result<usize, Refusal>
+    ensures reply { result ≡ catalogue_of number (length out.old) }
     ensures bytes { out.new ≡ catalogue_bytes number out.old }
 {
-    let past = HIGHEST < number;
-    if past {
-        return Catalogued::Refused(Refusal::Function);
+    if HIGHEST < number {
+        return Err(Refusal::Function);
     }
     let entry = entry_of(number);
     let length = 8 * records(entry);
     if out.len() < length {
-        return Catalogued::Refused(Refusal::Room);
+        return Err(Refusal::Room);
     }
     write(entry, out);
-    Catalogued::Length(length)
+    Ok(length)
 }

@@ -6,9 +6,7 @@ use mathlib.Core.List.{List, ◌∷◌}
 use native.Mathlib.Omega.{arith}
 use lib.Dec.{eqb}
 use lib.ListN.{length}
-use Rattle.refusals.specs.Why.{Why}
-use Rattle.refusals.specs.Reply.{Reply, accepted, refused}
-use Rattle.std.specs.Prelude.{if◌then◌else◌}
+use Rattle.std.specs.Prelude.{if◌then◌else◌, Result, Ok, Err, Some}
 use Rattle.majority.specs.declared.Counts.{Counts}
 use Rattle.rules.specs.declared.Step.{Step}
 use Rattle.tables.specs.Field.{put_field}
@@ -16,10 +14,11 @@ use Rattle.tables.specs.Bytes.{table_of}
 use Rattle.tables.specs.Calls.{check_of}
 use Rattle.tables.proofs.PutField.{bytes_length}
 use Rattle.rewriting.specs.Calls.{step_of, step_bytes}
-use Rattle.rewriting.specs.Script.{Run, stopped, step_at, steps_from, steps_of, by_reply, run_by, after_check, script_by}
+use Rattle.rewriting.specs.Script.{Run, step_at, steps_from, steps_of, by_reply, run_by, after_check, script_by}
 use Rattle.demands.specs.Converted.{step_of_before, step_bytes_before, meets_opposite, renumbered, converted_from, Conversion}
 use Rattle.demands.proofs.Renumbered.{step_stays, renumbered_keeps, renumbered_step}
 use Rattle.demands.proofs.ConvertedStep.{converted_step, reply_converted, bytes_converted, reply_refused}
+use Rattle.refusals.specs.declared.Refusal.{Refusal}
 
 -- what renumbering a step from step i on keeps, converting keeps
 converted_keeps : (P : List ℕ → Type 0) (k i : ℕ) (xs : List ℕ) (used : ℕ) (script : List ℕ) → ((j : ℕ) (ys : List ℕ) → i ≤ j → P ys → P (put_field ys (4 * j) 10)) → P script
@@ -32,9 +31,9 @@ converted_keeps P (suc k) i xs used script keeps p =
     go (step_of_before xs used s)
     (λ next. converted_keeps P k (suc i) _ next _ (λ j ys h. keeps j ys (omega arith)) (renumbered_keeps i script P (keeps i script (omega arith) p) p t))
   where
-    go : (r : Reply ℕ) {f : ℕ → List ℕ} → ((next : ℕ) → P (f next)) → P (by_reply r f (λ w. script))
-    go (accepted next) rest = rest next
-    go (refused w) rest = p
+    go : (r : Result ℕ Refusal) {f : ℕ → List ℕ} → ((next : ℕ) → P (f next)) → P (by_reply r f (λ w. script))
+    go (Ok next) rest = rest next
+    go (Err w) rest = p
 
 converted_length : (k i : ℕ) (xs : List ℕ) (used : ℕ) (script : List ℕ) → length (converted_from i k xs used script) ≡ length script
 converted_length k i xs used script = converted_keeps (λ ys. length ys ≡ length script) k i xs used script (λ j ys h e. bytes_length ys (4 * j) 10 0 ∙ e) refl
@@ -50,12 +49,12 @@ same_steps zero i xs ys same = refl
 same_steps (suc k) i xs ys same = rw (same i (omega arith), same_steps k (suc i) xs ys (λ j h. same j (omega arith)))
 
 -- a step that is taken, and one that is not
-module _ (reply : List ℕ → ℕ → Step → Reply ℕ) (left : List ℕ → ℕ → Step → List ℕ) (taken : ℕ) (xs : List ℕ) (used : ℕ) (s : Step) (steps : List Step) where
-  run_on : (next : ℕ) → reply xs used s ≡ accepted next → run_by reply left taken xs used (s ∷ steps) ≡ run_by reply left (taken + 1) (left xs used s) next steps
+module _ (reply : List ℕ → ℕ → Step → Result ℕ Refusal) (left : List ℕ → ℕ → Step → List ℕ) (taken : ℕ) (xs : List ℕ) (used : ℕ) (s : Step) (steps : List Step) where
+  run_on : (next : ℕ) → reply xs used s ≡ Ok next → run_by reply left taken xs used (s ∷ steps) ≡ run_by reply left (taken + 1) (left xs used s) next steps
   unfolding run_by
   run_on next e = rw e
 
-  run_off : (w : Why) → reply xs used s ≡ refused w → run_by reply left taken xs used (s ∷ steps) ≡ record { taken = taken; end = stopped w; used = used; bytes = xs }
+  run_off : (w : Refusal) → reply xs used s ≡ Err w → run_by reply left taken xs used (s ∷ steps) ≡ record { taken = taken; end = Some w; used = used; bytes = xs }
   unfolding run_by
   run_off w e = rw e
 
@@ -95,11 +94,11 @@ module _ (i : ℕ) (xs : List ℕ) (used : ℕ) (script : List ℕ) where
   onward_without none j h l e = none j (omega arith) (rw onward_length at l) (ap (λ (q : Step). q.rule) (sym (onward_step j h)) ∙ e)
 
   -- with k steps after it, from what these do
-  turn : (k taken : ℕ) → i < length script / 8 → (s.rule ≡ 10 → ⊥) → (r : Reply ℕ) → step_of_before xs used s ≡ r
+  turn : (k taken : ℕ) → i < length script / 8 → (s.rule ≡ 10 → ⊥) → (r : Result ℕ Refusal) → step_of_before xs used s ≡ r
       → ((next : ℕ) → now (taken + 1) ys next (steps_from (converted_from (suc i) k ys next onward) (suc i) k) ≡ before (taken + 1) ys next (steps_from onward (suc i) k))
       → now taken xs used (steps_from (by_reply r (λ next. converted_from (suc i) k ys next onward) (λ w. script)) i (suc k)) ≡ before taken xs used (steps_from script i (suc k))
   unfolding steps_from
-  turn k taken h known (accepted next) e rest =
+  turn k taken h known (Ok next) e rest =
       let zs = converted_from (suc i) k ys next onward in
       let head : step_at zs i ≡ converted_step (table_of xs (used / 8)) s = converted_step_lem k (suc i) ys next onward i (omega arith) ∙ renumbered_step i script h met in
       run_on step_of step_bytes taken xs used (step_at zs i) (steps_from zs (suc i) k) next (ap (step_of xs used) head ∙ reply_converted xs used s known ∙ e)
@@ -107,7 +106,7 @@ module _ (i : ℕ) (xs : List ℕ) (used : ℕ) (script : List ℕ) where
       ∙ rest next
       ∙ ap (before (taken + 1) ys next) (same_steps k (suc i) onward script onward_step)
       ∙ sym (run_on step_of_before step_bytes_before taken xs used s (steps_from script (suc i) k) next e)
-  turn k taken h known (refused w) e rest =
+  turn k taken h known (Err w) e rest =
       run_off step_of step_bytes taken xs used s (steps_from script (suc i) k) w (reply_refused xs used s known w e)
       ∙ sym (run_off step_of_before step_bytes_before taken xs used s (steps_from script (suc i) k) w e)
 
@@ -137,8 +136,8 @@ conversion xs used script none = go (check_of xs used) (eqb (length script % 8) 
         ap (λ (n : ℕ). now 0 xs used (steps_from (walked xs used script) 0 (n / 8))) long
         ∙ run_converted (length script / 8) 0 0 xs used script (omega arith) (λ j h. none j)
 
-    go : (c : Reply Counts) (even : Bool) → eqb (length script % 8) 0 ≡ even
+    go : (c : Result Counts Refusal) (even : Bool) → eqb (length script % 8) 0 ≡ even
         → after_check step_of step_bytes c xs used (if even then walked xs used script else script) ≡ after_check step_of_before step_bytes_before c xs used script
-    go (refused w) even e = refl
-    go (accepted c) true e = rw (same, long)
-    go (accepted c) false e = rw e
+    go (Err w) even e = refl
+    go (Ok c) true e = rw (same, long)
+    go (Ok c) false e = rw e

@@ -1,15 +1,13 @@
 -- One step of a script that is converted: where it met opposite edges, rule 10 does now what rule 2 did; and else the step does what it did.
 use Prim.Native.Nat.{ℕ, ◌+◌, ◌*◌, ◌/◌, ◌≤◌}
-use mathlib.Core.Path.{◌≡◌, refl, sym, ◌∙◌}
+use mathlib.Core.Path.{◌≡◌, refl, sym, ◌∙◌, ap}
 use mathlib.Core.Bool.{Bool, true, false, ◌&&◌}
 use mathlib.Core.List.{List}
 use native.Mathlib.Omega.{arith}
 use borrow.Author.Tests.{eqb-true, ne_eqb, le-ltb}
 use lib.Dec.{eqb}
 use lib.ListN.{length}
-use Rattle.refusals.specs.Why.{Why}
-use Rattle.refusals.specs.Reply.{Reply, accepted, refused, and_then}
-use Rattle.std.specs.Prelude.{if◌then◌else◌}
+use Rattle.std.specs.Prelude.{if◌then◌else◌, Result, Ok, Err}
 use Rattle.majority.specs.Edge.{flip}
 use Rattle.majority.specs.Edit.{node_record}
 use Rattle.majority.specs.declared.Record.{Record}
@@ -25,8 +23,14 @@ use Rattle.tables.specs.Calls.{check_of}
 use Rattle.tables.proofs.Decoded.{length_table}
 use Rattle.tables.proofs.Encoded.{accepted_records}
 use Rattle.rewriting.specs.Calls.{step_table, step_of, step_bytes}
-use Rattle.rewriting.proofs.Replies.{not_taken}
 use Rattle.demands.specs.Converted.{majority_step_before, step_before, step_table_before, step_of_before, step_bytes_before, meets_opposite}
+use Rattle.refusals.specs.declared.Refusal.{Refusal}
+use Rattle.refusals.specs.Reply.{◌>>=◌}
+
+-- a refusal that stands after something was made of what was accepted was there before
+not_taken : {A B : Type 0} (r : Result A Refusal) (f : A → B) (w : Refusal) → Err w ≡ ◌>>=◌ r (λ x. Ok (f x)) → r ≡ Err w
+not_taken (Ok x) f w e = let z : ◌≡◌ {A = ℕ} 0 1 = cc in absurd (omega arith)
+not_taken (Err v) f w e = let same : v ≡ w = cc in ap Err same
 
 -- the step as it is converted
 abbrev pub converted_step : List Record → Step → Step
@@ -60,11 +64,11 @@ module _ (bytes n m : ℕ) (rs : List Record) (g a b : ℕ) where
       go false e = rw (e, form)
 
   -- on opposite edges rule 2 was refused for its fields alone, and so it is now
-  still_refused : m ≤ 1024 → 8 * length rs ≤ bytes → opposite_form r ≡ true → (w : Why) → majority_step_before bytes n m rs g a b ≡ refused w → step_by bytes n m rs Majority g a b ≡ refused w
+  still_refused : m ≤ 1024 → 8 * length rs ≤ bytes → opposite_form r ≡ true → (w : Refusal) → majority_step_before bytes n m rs g a b ≡ Err w → step_by bytes n m rs Majority g a b ≡ Err w
   unfolding step_by majority_step_before opposite_form
   still_refused few room form w e = go (fields_fit n m Majority g a b) refl
     where
-      go : (t : Bool) → fields_fit n m Majority g a b ≡ t → step_by bytes n m rs Majority g a b ≡ refused w
+      go : (t : Bool) → fields_fit n m Majority g a b ≡ t → step_by bytes n m rs Majority g a b ≡ Err w
       go false fields = rw fields (rw fields at e)
       go true fields =
           let few' : m + inserted n Majority g ≤ 1024 = omega arith in
@@ -108,10 +112,10 @@ module _ (bytes n m : ℕ) (rs : List Record) (s : Step) where
         go false is = unmet is
 
     -- a step that was refused stays as it is
-    step_refused : m ≤ 1024 → 8 * length rs ≤ bytes → (w : Why) → step_before bytes n m rs s ≡ refused w → step bytes n m rs s ≡ refused w
+    step_refused : m ≤ 1024 → 8 * length rs ≤ bytes → (w : Refusal) → step_before bytes n m rs s ≡ Err w → step bytes n m rs s ≡ Err w
     step_refused few room w e = go (meets_opposite rs s) refl
       where
-        go : (t : Bool) → meets_opposite rs s ≡ t → step bytes n m rs s ≡ refused w
+        go : (t : Bool) → meets_opposite rs s ≡ t → step bytes n m rs s ≡ Err w
         go true is = is_2 (met is).0 ∙ still_refused bytes n m rs s.gate s.a s.b few room (met is).1 w (sym (was_2 (met is).0) ∙ e)
         go false is = unmet is ∙ e
 
@@ -124,9 +128,9 @@ module _ (xs : List ℕ) (used : ℕ) (s : Step) (known : s.rule ≡ 10 → ⊥)
   unfolding step_table step_table_before
   table_converted = go (check_of xs used)
     where
-      go : (c : Reply Counts) → and_then c (λ c. step (length xs) c.inputs c.gates rs (converted_step rs s)) ≡ and_then c (λ c. step_before (length xs) c.inputs c.gates rs s)
-      go (accepted c) = step_converted (length xs) c.inputs c.gates rs s known
-      go (refused w) = refl
+      go : (c : Result Counts Refusal) → ◌>>=◌ c (λ c. step (length xs) c.inputs c.gates rs (converted_step rs s)) ≡ ◌>>=◌ c (λ c. step_before (length xs) c.inputs c.gates rs s)
+      go (Ok c) = step_converted (length xs) c.inputs c.gates rs s known
+      go (Err w) = refl
 
   pub reply_converted : step_of xs used (converted_step rs s) ≡ step_of_before xs used s
   unfolding step_of step_of_before
@@ -136,18 +140,18 @@ module _ (xs : List ℕ) (used : ℕ) (s : Step) (known : s.rule ≡ 10 → ⊥)
   unfolding step_bytes step_bytes_before
   bytes_converted = rw table_converted
 
-  table_refused : (w : Why) → step_table_before xs used s ≡ refused w → step_table xs used s ≡ refused w
+  table_refused : (w : Refusal) → step_table_before xs used s ≡ Err w → step_table xs used s ≡ Err w
   unfolding step_table step_table_before
   table_refused w e = go (check_of xs used) refl e
     where
-      go : (c : Reply Counts) → check_of xs used ≡ c → and_then c (λ c. step_before (length xs) c.inputs c.gates rs s) ≡ refused w
-          → and_then c (λ c. step (length xs) c.inputs c.gates rs s) ≡ refused w
-      go (refused v) is e = e
-      go (accepted c) is e =
+      go : (c : Result Counts Refusal) → check_of xs used ≡ c → ◌>>=◌ c (λ c. step_before (length xs) c.inputs c.gates rs s) ≡ Err w
+          → ◌>>=◌ c (λ c. step (length xs) c.inputs c.gates rs s) ≡ Err w
+      go (Err v) is e = e
+      go (Ok c) is e =
           let held = accepted_records xs used c is in
           let limits = (acceptance c.inputs c.gates c.outputs rs held.2).limits in
           step_refused (length xs) c.inputs c.gates rs s known limits.gates (omega (arith, held.1, length_table xs (used / 8))) w e
 
-  pub reply_refused : (w : Why) → step_of_before xs used s ≡ refused w → step_of xs used s ≡ refused w
+  pub reply_refused : (w : Refusal) → step_of_before xs used s ≡ Err w → step_of xs used s ≡ Err w
   unfolding step_of step_of_before
   reply_refused w e = rw (table_refused w (not_taken (step_table_before xs used s) (λ t. 8 * length t) w (sym e)))

@@ -3,7 +3,6 @@ use Prim.Native.Nat.{ℕ, suc, ◌+◌, ◌-◌, ◌/◌}
 use mathlib.Core.Path.{◌≡◌}
 use mathlib.Core.List.{List, [], ◌∷◌}
 use native.Mathlib.Omega.{arith}
-use Rattle.refusals.specs.Reply.{accepted}
 use Rattle.majority.specs.Check.{counts}
 use Rattle.tables.specs.Bytes.{table_of}
 use Rattle.tables.specs.Calls.{check_of}
@@ -14,8 +13,9 @@ use Rattle.demands.specs.Demand3.{counted_taken, After, run_scripts, Keeps, Dema
 use Rattle.demands.specs.Probes.{through_scripts}
 use Rattle.demands.proofs.OneStep.{Between, between_same}
 use Rattle.demands.proofs.OneScript.{between_sum, between_script}
+use Rattle.std.specs.Prelude.{Ok}
 
-pub between_scripts : (scripts : List (List ℕ)) (xs : List ℕ) (used n m o : ℕ) → check_of xs used ≡ accepted (counts n m o)
+pub between_scripts : (scripts : List (List ℕ)) (xs : List ℕ) (used n m o : ℕ) → check_of xs used ≡ Ok (counts n m o)
     → Between ((run_scripts xs used scripts).deepened + (run_scripts xs used scripts).voted) (through_scripts (followed n) xs used scripts) (through_scripts (followed_edge n) xs used scripts)
     n m o xs used (run_scripts xs used scripts).bytes (run_scripts xs used scripts).used
 unfolding run_scripts through_scripts

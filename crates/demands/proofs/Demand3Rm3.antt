@@ -2,7 +2,6 @@
 use Prim.Native.Nat.{ℕ}
 use mathlib.Core.Path.{◌≡◌, ◌∙◌}
 use mathlib.Core.List.{List}
-use Rattle.refusals.specs.Reply.{accepted}
 use Rattle.majority.specs.Check.{counts}
 use Rattle.translation.specs.Translate.{translation, operations}
 use Rattle.translation.specs.declared.Mode.{Mode}
@@ -13,8 +12,9 @@ use Rattle.translation.proofs.Rm3Size.{translated_size}
 use Rattle.rm3.proofs.Replies.{reply_table}
 use Rattle.demands.specs.Demand3.{After, table_after, Keeps, reply_after, rm3_after, KeepsRm3, Demand3, Demand3Rm3}
 use Rattle.demands.proofs.Demand3.{demand_3}
+use Rattle.std.specs.Prelude.{Ok}
 
-module _ {n m o : ℕ} {first : List Record} {after : After} (k : Keeps n m o first after) (mode : Mode) (out : List ℕ) (l : ℕ) (is : reply_after mode after out ≡ accepted l) where
+module _ {n m o : ℕ} {first : List Record} {after : After} (k : Keeps n m o first after) (mode : Mode) (out : List ℕ) (l : ℕ) (is : reply_after mode after out ≡ Ok l) where
   -- the bytes hold the translation of the table that the scripts left
   held : rm3_after mode after out l ≡ translation mode n k.gates (table_after after)
   held = reply_table mode after.bytes after.used out l (counts n k.gates o) k.holds is

@@ -6,9 +6,7 @@ use mathlib.Core.List.{List, [], ◌∷◌}
 use native.Mathlib.Omega.{arith}
 use lib.Dec.{eqb}
 use lib.ListN.{length, take}
-use Rattle.refusals.specs.Why.{why}
-use Rattle.std.specs.Prelude.{if◌then◌else◌}
-use Rattle.refusals.specs.Reply.{Reply, accepted, refused}
+use Rattle.std.specs.Prelude.{if◌then◌else◌, Result, Ok, Err, Some}
 use Rattle.majority.specs.Check.{counts}
 use Rattle.rules.specs.Step.{deepens_by, voters_by}
 use Rattle.rules.specs.Followed.{Probe, followed, followed_edge}
@@ -18,10 +16,12 @@ use Rattle.rules.proofs.Kept.{kept_then}
 use Rattle.tables.specs.Bytes.{table_of}
 use Rattle.tables.specs.Calls.{check_of}
 use Rattle.rewriting.specs.Calls.{step_of, step_bytes}
-use Rattle.rewriting.specs.Script.{Run, stopped, steps_of, by_reply, run_by, run_from, untaken, script_by, script_run}
+use Rattle.rewriting.specs.Script.{Run, steps_of, by_reply, run_by, run_from, untaken, script_by, script_run}
 use Rattle.rewriting.specs.Through.{through_steps, through_script}
 use Rattle.demands.specs.Demand3.{counted, counted_taken}
 use Rattle.demands.proofs.OneStep.{Between, between_same, between_step}
+use Rattle.refusals.specs.declared.Refusal.{Refusal}
+use Rattle.refusals.specs.declared.Refusal.TheVariants as refusal
 
 -- one after another
 module _ {P Q : Probe → Probe} {E F : ℕ → ℕ} {n m o : ℕ} {xs ys zs : List ℕ} {u v w : ℕ} where
@@ -45,41 +45,41 @@ record Ran (taken : ℕ) (probe : Probe → Probe) (edge : ℕ → ℕ) (n m o :
   between : Between (counted deepens_by (take more steps) + counted voters_by (take more steps)) probe edge n m o xs used run.bytes run.used
 
 -- no step is taken
-ran_none : (taken n m o : ℕ) (xs : List ℕ) (used : ℕ) (steps : List Step) (run : Run) → check_of xs used ≡ accepted (counts n m o)
+ran_none : (taken n m o : ℕ) (xs : List ℕ) (used : ℕ) (steps : List Step) (run : Run) → check_of xs used ≡ Ok (counts n m o)
     → run.taken ≡ taken → run.bytes ≡ xs → run.used ≡ used → Ran taken (λ p. p) (λ x. x) n m o xs used steps run
 unfolding counted
 ran_none taken n m o xs used steps run is t b u = record { more = 0; adds = omega arith; between = rw (b, u) (between_same xs used n m o is) }
 
 -- what goes along, by the reply to the step s and by the steps after it
-abbrev onward : {A : Type 0} → (List Record → Step → A → A) → List ℕ → ℕ → Step → List Step → Reply ℕ → A → A
+abbrev onward : {A : Type 0} → (List Record → Step → A → A) → List ℕ → ℕ → Step → List Step → Result ℕ Refusal → A → A
 onward f xs used s steps reply x = by_reply reply (λ next. through_steps f (step_bytes xs used s) next steps (f (table_of xs (used / 8)) s x)) (λ w. x)
 
-ran : (steps : List Step) (taken n m o : ℕ) (xs : List ℕ) (used : ℕ) → check_of xs used ≡ accepted (counts n m o)
+ran : (steps : List Step) (taken n m o : ℕ) (xs : List ℕ) (used : ℕ) → check_of xs used ≡ Ok (counts n m o)
     → Ran taken (through_steps (followed n) xs used steps) (through_steps (followed_edge n) xs used steps) n m o xs used steps (run_from taken xs used steps)
 unfolding run_by through_steps counted
 ran [] taken n m o xs used is = ran_none taken n m o xs used [] _ is refl refl refl
 ran (s ∷ steps) taken n m o xs used is = go (step_of xs used s) refl (λ m' ys next is'. ran steps (taken + 1) n m' o ys next is')
   where
-    go : (reply : Reply ℕ) → step_of xs used s ≡ reply
-        → ((m' : ℕ) (ys : List ℕ) (next : ℕ) → check_of ys next ≡ accepted (counts n m' o)
+    go : (reply : Result ℕ Refusal) → step_of xs used s ≡ reply
+        → ((m' : ℕ) (ys : List ℕ) (next : ℕ) → check_of ys next ≡ Ok (counts n m' o)
         → Ran (taken + 1) (through_steps (followed n) ys next steps) (through_steps (followed_edge n) ys next steps) n m' o ys next steps (run_from (taken + 1) ys next steps))
         → Ran taken (onward (followed n) xs used s steps reply) (onward (followed_edge n) xs used s steps reply) n m o xs used (s ∷ steps)
-        (by_reply reply (λ next. run_from (taken + 1) (step_bytes xs used s) next steps) (λ w. record { taken = taken; end = stopped w; used = used; bytes = xs }))
-    go (accepted next) e rest =
+        (by_reply reply (λ next. run_from (taken + 1) (step_bytes xs used s) next steps) (λ w. record { taken = taken; end = Some w; used = used; bytes = xs }))
+    go (Ok next) e rest =
         let p = between_step xs used n m o is s next e in
         let q = rest p.gates (step_bytes xs used s) next p.holds in
         record { more = suc q.more; adds = omega (arith, q.adds); between = between_sum (deepens_by s) (voters_by s) (counted deepens_by (take q.more steps)) (counted voters_by (take q.more steps)) p q.between }
-    go (refused w) e rest = ran_none taken n m o xs used (s ∷ steps) _ is refl refl refl
+    go (Err w) e rest = ran_none taken n m o xs used (s ∷ steps) _ is refl refl refl
 
 -- a script, whatever it is
-module _ (xs : List ℕ) (used n m o : ℕ) (is : check_of xs used ≡ accepted (counts n m o)) (script : List ℕ) where
+module _ (xs : List ℕ) (used n m o : ℕ) (is : check_of xs used ≡ Ok (counts n m o)) (script : List ℕ) where
   whole : Ran 0 (through_script (followed n) xs used script) (through_script (followed_edge n) xs used script) n m o xs used (steps_of script) (script_run xs used script)
   unfolding script_by through_script
   whole = rw is (go (not (eqb (length script % 8) 0)))
     where
       go : (uneven : Bool)
           → Ran 0 (λ p. if uneven then p else through_steps (followed n) xs used (steps_of script) p) (λ x. if uneven then x else through_steps (followed_edge n) xs used (steps_of script) x)
-          n m o xs used (steps_of script) (if uneven then untaken (why 12) xs used else run_from 0 xs used (steps_of script))
+          n m o xs used (steps_of script) (if uneven then untaken refusal.Script xs used else run_from 0 xs used (steps_of script))
       go true = ran_none 0 n m o xs used (steps_of script) _ is refl refl refl
       go false = ran (steps_of script) 0 n m o xs used is
 

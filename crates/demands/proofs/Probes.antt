@@ -5,7 +5,6 @@ use mathlib.Core.Bool.{true}
 use mathlib.Core.List.{List, [], ◌∷◌}
 use native.Mathlib.Omega.{arith}
 use lib.ListN.{length}
-use Rattle.refusals.specs.Reply.{accepted}
 use Rattle.majority.specs.Edge.{node_of}
 use Rattle.majority.specs.Node.{edge_worth}
 use Rattle.majority.specs.Value.{values, value}
@@ -23,6 +22,7 @@ use Rattle.demands.specs.Demand3.{table_after, run_scripts}
 use Rattle.demands.specs.Probes.{through_scripts, probe_after, edge_after, KeepsProbes, ProbesInside, place_after, Tells, PlacesTell, LowerStay}
 use Rattle.demands.proofs.OneStep.{lower_between}
 use Rattle.demands.proofs.Demand3.{between_scripts}
+use Rattle.std.specs.Prelude.{Ok}
 
 pub probes_inside : ProbesInside
 unfolding ProbesInside
@@ -44,7 +44,7 @@ module _ {n gates : ℕ} {first rs : List Record} {g e : ℕ} where
       let at = ap node_of is.edge ∙ edge_to_node (odd named) k in
       (omega (arith, at, here.from), omega (arith, at, here.upto), λ a. rw is.edge (here.edge a))
 
-module _ (xs : List ℕ) (used : ℕ) (script ps : List ℕ) (n m o : ℕ) (is : check_of xs used ≡ accepted (counts n m o)) (even : whole script ≡ true) (room : m ≤ length ps) where
+module _ (xs : List ℕ) (used : ℕ) (script ps : List ℕ) (n m o : ℕ) (is : check_of xs used ≡ Ok (counts n m o)) (even : whole script ≡ true) (room : m ≤ length ps) where
   probes : KeepsProbes n m o xs used (script ∷ [])
   unfolding ProbesInside
   probes = probes_inside xs used (script ∷ []) n m o is

@@ -1,6 +1,5 @@
 -- Whose block it is (SPEC 5.6): take an accepted table, run any scripts on it one after another, and follow each gate of the first table. Then the gates that a step inserts.
-use Rattle.std.specs.Prelude.{ℕ, ◌+◌, ◌/◌, ◌≤◌, ◌<◌, ◌≡◌, List}
-use Rattle.refusals.specs.Reply.{accepted}
+use Rattle.std.specs.Prelude.{ℕ, ◌+◌, ◌/◌, ◌≤◌, ◌<◌, ◌≡◌, List, Ok}
 use Rattle.majority.specs.Check.{counts}
 use Rattle.rules.specs.Voter.{block_of}
 use Rattle.rules.specs.Step.{inserted_by}
@@ -20,7 +19,7 @@ HasBlock n xs used scripts g b = (k named : ℕ) → probe_after n xs used scrip
 unfoldable pub BlocksStay : Type 0
 BlocksStay =
     (xs : List ℕ) (used : ℕ) (scripts : List (List ℕ)) (n m o : ℕ)
-    → check_of xs used ≡ accepted (counts n m o)
+    → check_of xs used ≡ Ok (counts n m o)
     → (g : ℕ) → n < g → g ≤ n + m
     → HasBlock n xs used scripts g (block_of (table_of xs (used / 8)) g)
 
@@ -29,7 +28,7 @@ BlocksStay =
 unfoldable pub InsertedBlocks : Type 0
 InsertedBlocks =
     (xs : List ℕ) (used : ℕ) (s : Step) (scripts : List (List ℕ)) (n m o next : ℕ)
-    → check_of xs used ≡ accepted (counts n m o)
-    → step_of xs used s ≡ accepted next
+    → check_of xs used ≡ Ok (counts n m o)
+    → step_of xs used s ≡ Ok next
     → (k : ℕ) → s.gate ≤ k → k < s.gate + inserted_by n s
     → HasBlock n (step_bytes xs used s) next scripts k (block_of (table_of xs (used / 8)) s.gate)

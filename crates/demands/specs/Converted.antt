@@ -1,7 +1,5 @@
 -- Stored scripts (SPEC 5.8): rule 2 once took opposite edges too, and no rule had the number 10. A script of that time is converted, and gives what it gave.
-use Rattle.std.specs.Prelude.{ℕ, zero, suc, ◌+◌, ◌*◌, ◌/◌, ◌%◌, ◌<◌, ◌≡◌, Bool, not, ◌&&◌, ◌||◌, List, ltb, eqb, length, if◌then◌else◌}
-use Rattle.refusals.specs.Why.{why}
-use Rattle.refusals.specs.Reply.{Reply, accepted, refused, and_then}
+use Rattle.std.specs.Prelude.{ℕ, zero, suc, ◌+◌, ◌*◌, ◌/◌, ◌%◌, ◌<◌, ◌≡◌, Bool, not, ◌&&◌, ◌||◌, List, ltb, eqb, length, if◌then◌else◌, Result, Ok, Err}
 use Rattle.majority.specs.Edge.{flip}
 use Rattle.majority.specs.Edit.{node_record, redirect_all}
 use Rattle.majority.specs.declared.Record.{Record}
@@ -14,6 +12,9 @@ use Rattle.tables.specs.Bytes.{table_of}
 use Rattle.tables.specs.Calls.{check_of}
 use Rattle.rewriting.specs.Calls.{after_reply}
 use Rattle.rewriting.specs.Script.{Run, step_at, by_reply, script_by, script_run}
+use Rattle.refusals.specs.declared.Refusal.{Refusal}
+use Rattle.refusals.specs.declared.Refusal.TheVariants as refusal
+use Rattle.refusals.specs.Reply.{◌>>=◌}
 
 -- 2. Majority, as it was. First two edges equal: redirect g to the first. First two opposite: redirect g to the third
 abbrev pub majority_form_before : Record → Bool
@@ -26,27 +27,31 @@ abbrev pub majority_rule_before : ℕ → List Record → List Record
 majority_rule_before g rs = redirect_all g (majority_edge_before (node_record rs g)) rs
 
 -- a step of it: refusals 8 to 11 in their order, or the table that it made
-unfoldable pub majority_step_before : ℕ → ℕ → ℕ → List Record → ℕ → ℕ → ℕ → Reply (List Record)
+unfoldable pub majority_step_before : ℕ → ℕ → ℕ → List Record → ℕ → ℕ → ℕ → Result (List Record) Refusal
 majority_step_before bytes n m rs g a b =
-    if not (fields_fit n m Majority g a b) then refused (why 8)
-    else if not (majority_form_before (node_record rs g)) then refused (why 9)
-    else if ltb 1024 (m + inserted n Majority g) then refused (why 10)
-    else if ltb bytes (8 * (length rs + inserted n Majority g)) then refused (why 11)
-    else accepted (majority_rule_before g rs)
+    if not (fields_fit n m Majority g a b) then Err refusal.Field
+    else if not (majority_form_before (node_record rs g)) then Err refusal.Form
+    else if ltb 1024 (m + inserted n Majority g) then Err refusal.Gates
+    else if ltb bytes (8 * (length rs + inserted n Majority g)) then Err refusal.Room
+    else Ok (majority_rule_before g rs)
 
 -- a step as it was: 7 where it is numbered 10, that rule where it is numbered 2, and else what it is now
-unfoldable pub step_before : ℕ → ℕ → ℕ → List Record → Step → Reply (List Record)
+unfoldable pub step_before : ℕ → ℕ → ℕ → List Record → Step → Result (List Record) Refusal
 step_before bytes n m rs s =
-    if eqb s.rule 10 then refused (why 7)
+    if eqb s.rule 10 then Err refusal.Rule
     else if eqb s.rule 2 then majority_step_before bytes n m rs s.gate s.a s.b
     else step bytes n m rs s
 
 -- the table that it made of the one in the first `used` bytes of xs, or the refusal; what it replied; and the bytes that it left
-unfoldable pub step_table_before : List ℕ → ℕ → Step → Reply (List Record)
-step_table_before xs used s = and_then (check_of xs used) (λ c. step_before (length xs) c.inputs c.gates (table_of xs (used / 8)) s)
+unfoldable pub step_table_before : List ℕ → ℕ → Step → Result (List Record) Refusal
+step_table_before xs used s = do
+  c ← check_of xs used
+  step_before (length xs) c.inputs c.gates (table_of xs (used / 8)) s
 
-unfoldable pub step_of_before : List ℕ → ℕ → Step → Reply ℕ
-step_of_before xs used s = and_then (step_table_before xs used s) (λ t. accepted (8 * length t))
+unfoldable pub step_of_before : List ℕ → ℕ → Step → Result ℕ Refusal
+step_of_before xs used s = do
+  t ← step_table_before xs used s
+  Ok (8 * length t)
 
 unfoldable pub step_bytes_before : List ℕ → ℕ → Step → List ℕ
 step_bytes_before xs used s = after_reply (step_table_before xs used s) used xs

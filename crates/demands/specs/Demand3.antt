@@ -1,9 +1,8 @@
 -- What rewriting keeps (SPEC 5.6): take an accepted table, and run any scripts on it one after another. Then what its RM3 table keeps (SPEC 6.3).
-use Rattle.std.specs.Prelude.{ℕ, ◌+◌, ◌*◌, ◌/◌, ◌≤◌, ◌<◌, ◌≡◌, List, [], ◌∷◌, length, take}
+use Rattle.std.specs.Prelude.{ℕ, ◌+◌, ◌*◌, ◌/◌, ◌≤◌, ◌<◌, ◌≡◌, List, [], ◌∷◌, length, take, Result, Ok}
 use Rattle.majority.specs.Table.{Below, WellFormed}
 use Rattle.majority.specs.Value.{output_value}
 use Rattle.majority.specs.Level.{depth}
-use Rattle.refusals.specs.Reply.{Reply, accepted}
 use Rattle.majority.specs.Check.{counts}
 use Rattle.majority.specs.Edit.{node_record}
 use Rattle.rules.specs.Step.{deepens_by, voters_by}
@@ -16,6 +15,7 @@ use Rattle.tables.specs.Calls.{check_of}
 use Rattle.rewriting.specs.Calls.{step_of, step_bytes}
 use Rattle.rewriting.specs.Script.{Run, steps_of, script_run}
 use Rattle.rm3.specs.Calls.{translate_of, translate_bytes}
+use Rattle.refusals.specs.declared.Refusal.{Refusal}
 
 -- how many of these steps are of a kind: f of one is 1 where it is, else 0
 unfoldable pub counted : (Step → ℕ) → List Step → ℕ
@@ -55,7 +55,7 @@ pub record Keeps (n m o : ℕ) (first : List Record) (after : After) : Type 0 wh
   -- how many gates there are now
   pub gates : ℕ
   -- the buffer still holds an accepted table, with as many inputs and outputs as at first
-  pub holds : check_of after.bytes after.used ≡ accepted (counts n gates o)
+  pub holds : check_of after.bytes after.used ≡ Ok (counts n gates o)
   -- it is well formed
   pub formed : WellFormed n gates o (table_after after)
   -- every gate still reads only lower nodes
@@ -69,26 +69,26 @@ pub record Keeps (n m o : ℕ) (first : List Record) (after : After) : Type 0 wh
 unfoldable pub Demand3 : Type 0
 Demand3 =
     (xs : List ℕ) (used : ℕ) (scripts : List (List ℕ)) (n m o : ℕ)
-    → check_of xs used ≡ accepted (counts n m o)
+    → check_of xs used ≡ Ok (counts n m o)
     → Keeps n m o (table_of xs (used / 8)) (run_scripts xs used scripts)
 
 -- from a first table of n inputs, m gates and o outputs to the one in the first `used` of these bytes
 pub record KeepsDepth (n m o : ℕ) (first : List Record) (bytes : List ℕ) (used : ℕ) : Type 0 where
   pub gates : ℕ
-  pub holds : check_of bytes used ≡ accepted (counts n gates o)
+  pub holds : check_of bytes used ≡ Ok (counts n gates o)
   pub same : depth n gates o (table_of bytes (used / 8)) ≡ depth n m o first
 
 -- sweep keeps depth: for every buffer and used length that the check accepts, and every step of rule 8 that is taken there
 unfoldable pub SweepKeepsDepth : Type 0
 SweepKeepsDepth =
     (xs : List ℕ) (used : ℕ) (s : Step) (n m o next : ℕ)
-    → check_of xs used ≡ accepted (counts n m o)
+    → check_of xs used ≡ Ok (counts n m o)
     → s.rule ≡ 8
-    → step_of xs used s ≡ accepted next
+    → step_of xs used s ≡ Ok next
     → KeepsDepth n m o (table_of xs (used / 8)) (step_bytes xs used s) next
 
 -- what `translate` then replies in a mode, where out is the buffer given for the RM3 table
-abbrev pub reply_after : Mode → After → List ℕ → Reply ℕ
+abbrev pub reply_after : Mode → After → List ℕ → Result ℕ Refusal
 reply_after mode after out = translate_of mode after.bytes after.used (length out)
 
 -- the records in the first l bytes that it leaves in out
@@ -100,7 +100,7 @@ pub record KeepsRm3 (n m o : ℕ) (first : List Record) (after : After) (ts : Li
   -- how many gates there are now, and how many operations
   pub gates : ℕ
   pub operations : ℕ
-  pub holds : check_of after.bytes after.used ≡ accepted (counts n gates o)
+  pub holds : check_of after.bytes after.used ≡ Ok (counts n gates o)
   -- every operation reads only lower operands
   pub formed : WellFormed3 n operations o ts
   -- each output has its first value under each assignment
@@ -115,6 +115,6 @@ pub record KeepsRm3 (n m o : ℕ) (first : List Record) (after : After) (ts : Li
 unfoldable pub Demand3Rm3 : Type 0
 Demand3Rm3 =
     (xs : List ℕ) (used : ℕ) (scripts : List (List ℕ)) (mode : Mode) (out : List ℕ) (n m o l : ℕ)
-    → check_of xs used ≡ accepted (counts n m o)
-    → reply_after mode (run_scripts xs used scripts) out ≡ accepted l
+    → check_of xs used ≡ Ok (counts n m o)
+    → reply_after mode (run_scripts xs used scripts) out ≡ Ok l
     → KeepsRm3 n m o (table_of xs (used / 8)) (run_scripts xs used scripts) (rm3_after mode (run_scripts xs used scripts) out l)

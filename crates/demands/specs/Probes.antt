@@ -1,6 +1,5 @@
 -- Probes inside (SPEC 5.6): take an accepted table, run any scripts on it one after another, and follow each gate of the first table. Then what `follow` tells of it (SPEC 5.7), and what a step leaves below its gate.
-use Rattle.std.specs.Prelude.{ℕ, suc, ◌+◌, ◌/◌, ◌≤◌, ◌<◌, ◌≡◌, true, List, [], ◌∷◌, length, get_or}
-use Rattle.refusals.specs.Reply.{accepted}
+use Rattle.std.specs.Prelude.{ℕ, suc, ◌+◌, ◌/◌, ◌≤◌, ◌<◌, ◌≡◌, true, List, [], ◌∷◌, length, get_or, Ok}
 use Rattle.majority.specs.Edge.{node_of}
 use Rattle.majority.specs.Node.{edge_worth}
 use Rattle.majority.specs.Value.{values, value}
@@ -36,7 +35,7 @@ edge_after n xs used scripts g = through_scripts (followed_edge n) xs used scrip
 pub record KeepsProbes (n m o : ℕ) (xs : List ℕ) (used : ℕ) (scripts : List (List ℕ)) : Type 0 where
   -- how many gates there are now
   pub gates : ℕ
-  pub holds : check_of (run_scripts xs used scripts).bytes (run_scripts xs used scripts).used ≡ accepted (counts n gates o)
+  pub holds : check_of (run_scripts xs used scripts).bytes (run_scripts xs used scripts).used ≡ Ok (counts n gates o)
   -- each gate of the first table: while it is present it is a gate, and its value under each assignment is its first value, or its inverse if an odd number of inversion steps taken named it
   pub shows : (g : ℕ) → n < g → g ≤ n + m
       → Shows n gates (table_of xs (used / 8)) (table_after (run_scripts xs used scripts)) g (probe_after n xs used scripts g) (edge_after n xs used scripts g)
@@ -45,7 +44,7 @@ pub record KeepsProbes (n m o : ℕ) (xs : List ℕ) (used : ℕ) (scripts : Lis
 unfoldable pub ProbesInside : Type 0
 ProbesInside =
     (xs : List ℕ) (used : ℕ) (scripts : List (List ℕ)) (n m o : ℕ)
-    → check_of xs used ≡ accepted (counts n m o)
+    → check_of xs used ≡ Ok (counts n m o)
     → KeepsProbes n m o xs used scripts
 
 -- what `follow` leaves in place i, that of node n + 1 + i of the first table
@@ -56,7 +55,7 @@ place_after xs used script ps i = get_or (places_after xs used script ps) i 0
 pub record Tells (n m o : ℕ) (xs : List ℕ) (used : ℕ) (script ps : List ℕ) (run : Run) : Type 0 where
   -- how many gates there are now
   pub gates : ℕ
-  pub holds : check_of run.bytes run.used ≡ accepted (counts n gates o)
+  pub holds : check_of run.bytes run.used ≡ Ok (counts n gates o)
   -- the place of each gate of the first table holds the edge that is kept for it
   pub edge : (i : ℕ) → i < m → place_after xs used script ps i ≡ edge_after n xs used (script ∷ []) (suc n + i)
   -- that is 0 where the gate was swept away, and there alone
@@ -73,7 +72,7 @@ pub record Tells (n m o : ℕ) (xs : List ℕ) (used : ℕ) (script ps : List �
 unfoldable pub PlacesTell : Type 0
 PlacesTell =
     (xs : List ℕ) (used : ℕ) (script ps : List ℕ) (n m o : ℕ)
-    → check_of xs used ≡ accepted (counts n m o)
+    → check_of xs used ≡ Ok (counts n m o)
     → whole script ≡ true
     → m ≤ length ps
     → Tells n m o xs used script ps (follow_run xs used script (length ps))
@@ -82,8 +81,8 @@ PlacesTell =
 unfoldable pub LowerStay : Type 0
 LowerStay =
     (xs : List ℕ) (used : ℕ) (s : Step) (n m o next : ℕ)
-    → check_of xs used ≡ accepted (counts n m o)
+    → check_of xs used ≡ Ok (counts n m o)
     → (s.rule ≡ 8 → ⊥)
-    → step_of xs used s ≡ accepted next
+    → step_of xs used s ≡ Ok next
     → (j : ℕ) → suc j < s.gate
     → record_at (table_of (step_bytes xs used s) (next / 8)) j ≡ record_at (table_of xs (used / 8)) j

@@ -1,7 +1,7 @@
 // Moving and changing the records of a lent slice. Each function is total: where the slice has no room for what is asked, nothing changes.
 #![tactic(auto)]
 
-ghost use Rattle.std.specs.Prelude.{◌≡◌, ◌+◌, ◌*◌, ◌≤◌, [], ◌∷◌, length};
+ghost use Rattle.std.specs.Prelude.{◌≡◌, ◌+◌, ◌*◌, ◌≤◌, length};
 ghost use Rattle.majority.specs.Edge.{redirect as redirect_edge};
 ghost use Rattle.majority.specs.Table.{record_at};
 ghost use Rattle.majority.specs.Edit.{edges};
@@ -9,18 +9,16 @@ ghost use Rattle.tables.specs.Bytes.{records_of, put_record};
 ghost use Rattle.editing.specs.Edited.{names_node, raise16, no_room_of, redirected_from, inserted_at, room_at, cleared_from};
 
 use majority::{Record, node, redirected};
-use std::num::wrapping_add_u16;
 use tables::{put_record, record_at};
 
 fn redirected_record(from: u16, to: u16, r: Record) -> Record
     ensures { result ≡ edges (redirect_edge from to) r }
 {
     Record {
-        kind: r.kind,
-        block: r.block,
         e1: redirected(from, to, r.e1),
         e2: redirected(from, to, r.e2),
         e3: redirected(from, to, r.e3),
+        ..r
     }
 }
 
@@ -32,20 +30,18 @@ pub fn names(k: u16, r: Record) -> bool
 }
 
 // Redirects a node to an edge, in the records of s from `first` on, up to n.
-#[tactic(auto, using(crate::proofs::Loops::edit_room, crate::proofs::Loops::edit_start, crate::proofs::Loops::edit_next, crate::proofs::Changed::unnamed, crate::proofs::Loops::edit_skip, crate::proofs::Loops::edit_end), unfolding(crate::specs::Edited::edited_from))]
+#[tactic(auto, using(crate::proofs::Loops::edit_end), unfolding(crate::specs::Edited::edited_from))]
 pub fn redirect(s: &mut [u8], first: usize, n: usize, from: u16, to: u16)
     ensures { s.new ≡ redirected_from s.old first n from to }
 {
     if (s.len() / 8 < n) | (n < first) {
         return;
     }
-    let mut i = first;
-    while i < n {
+    for i in first..n {
         let r = record_at(s, i);
         if names(from, r) {
             put_record(s, i, redirected_record(from, to, r));
         }
-        i += 1;
     }
 }
 
@@ -57,7 +53,7 @@ fn raised(g: u16, c: u16, edge: u16) -> u16
     if node(edge) < g {
         return edge;
     }
-    wrapping_add_u16(edge, wrapping_add_u16(c, c))
+    edge.wrapping_add(c.wrapping_add(c))
 }
 
 // By how many gates a kind and its block rise: 0. The backend does not see that, and so raises them, as one field, and the three edges at once.
@@ -72,10 +68,11 @@ fn unraised(g: u16) -> u16
 fn raised_record(g: u16, c: u16, r: Record) -> Record
     ensures { result ≡ edges (raise16 g c) r }
 {
-    let head = raised(g, unraised(g), (r.kind as u16) + 256 * (r.block as u16));
+    let head = raised(g, unraised(g), u16::from_le_bytes([r.kind, r.block]));
+    let [kind, block] = head.to_le_bytes();
     Record {
-        kind: (head % 256) as u8,
-        block: (head / 256) as u8,
+        kind,
+        block,
         e1: raised(g, c, r.e1),
         e2: raised(g, c, r.e2),
         e3: raised(g, c, r.e3),
@@ -97,18 +94,12 @@ fn move_up(s: &mut [u8], i: usize, g: u16, k: usize)
 fn no_room(all: usize, n: usize, g: u16, k: usize) -> bool
     ensures { result ≡ no_room_of all n g k }
 {
-    if g < 1 {
-        return true;
-    }
-    if all < n {
-        return true;
-    }
-    (all - n < k) | (n < g as usize - 1)
+    g < 1 || all < n || all - n < k || n < usize::from(g) - 1
 }
 
 // Makes room for k gates directly before node g, among n records: from the last down, each moves up by k places and is renumbered. Four move in a turn,
 // which the backend leaves as it is.
-#[tactic(auto, using(crate::proofs::Loops::no_move, crate::proofs::Loops::has_room, crate::proofs::Loops::move_start, crate::proofs::Loops::move_next, crate::proofs::Loops::move_end))]
+#[tactic(auto, using(crate::proofs::Loops::no_move, crate::proofs::Loops::has_room, crate::proofs::Loops::move_end))]
 pub fn make_room(s: &mut [u8], n: usize, g: u16, k: usize)
     ensures { s.new ≡ room_at s.old n g k }
 {
@@ -132,52 +123,29 @@ pub fn make_room(s: &mut [u8], n: usize, g: u16, k: usize)
     }
 }
 
-// Inserts a gate directly before node g, among n records.
-#[tactic(auto, using(crate::proofs::Loops::has_room, crate::proofs::Inserted::inserted_start, crate::proofs::Inserted::inserted_put, crate::proofs::Inserted::inserted_end), unfolding(crate::specs::Edited::inserted_at, tables::specs::Bytes::decode))]
-pub fn insert(s: &mut [u8], n: usize, g: u16, gate: Record)
-    ensures { s.new ≡ inserted_at s.old n g (gate ∷ []) }
+// Inserts gates directly before node g, among n records, one after the other.
+#[tactic(auto, using(crate::proofs::Loops::has_room, crate::proofs::Inserted::placing_end), unfolding(crate::specs::Edited::inserted_at))]
+pub fn insert(s: &mut [u8], n: usize, g: u16, gates: &[Record])
+    ensures { s.new ≡ inserted_at s.old n g gates.now }
 {
-    if no_room(s.len() / 8, n, g, 1) {
+    if no_room(s.len() / 8, n, g, gates.len()) {
         return;
     }
-    make_room(s, n, g, 1);
-    put_record(s, g as usize - 1, gate);
-}
-
-// Inserts two gates directly before node g, one after the other.
-#[tactic(auto, using(crate::proofs::Loops::has_room, crate::proofs::Inserted::inserted_start, crate::proofs::Inserted::inserted_put, crate::proofs::Inserted::inserted_end), unfolding(crate::specs::Edited::inserted_at, tables::specs::Bytes::decode))]
-pub fn insert_two(s: &mut [u8], n: usize, g: u16, first: Record, second: Record)
-    ensures { s.new ≡ inserted_at s.old n g (first ∷ second ∷ []) }
-{
-    if no_room(s.len() / 8, n, g, 2) {
-        return;
+    make_room(s, n, g, gates.len());
+    for (i, gate) in gates.iter().enumerate() {
+        put_record(s, g as usize - 1 + i, *gate);
     }
-    make_room(s, n, g, 2);
-    put_record(s, g as usize - 1, first);
-    put_record(s, g as usize, second);
 }
 
 // Clears the records from `first` on, up to n.
-#[tactic(auto, using(crate::proofs::Loops::edit_room, crate::proofs::Loops::edit_start, crate::proofs::Loops::edit_next, crate::proofs::Loops::edit_end), unfolding(crate::specs::Edited::edited_from))]
+#[tactic(auto, using(crate::proofs::Loops::edit_end), unfolding(crate::specs::Edited::edited_from))]
 pub fn clear(s: &mut [u8], first: usize, n: usize)
     ensures { s.new ≡ cleared_from s.old first n }
 {
     if (s.len() / 8 < n) | (n < first) {
         return;
     }
-    let mut i = first;
-    while i < n {
-        put_record(
-            s,
-            i,
-            Record {
-                kind: 0,
-                block: 0,
-                e1: 0,
-                e2: 0,
-                e3: 0,
-            },
-        );
-        i += 1;
+    for i in first..n {
+        put_record(s, i, Record::BLANK);
     }
 }

@@ -1,100 +1,57 @@
 // The listing of an RM3 table: a line with its counts and depth, one an operation and one an output.
 #![tactic(auto)]
 
-ghost use Rattle.std.specs.Prelude.{◌≤◌};
-
-use majority::{Counts, Record};
-use program::{End, Input, Program, STDOUT_FILENO};
-use rm3::{Depth, Translated};
-use tables::Checked;
-use text::Line;
+use majority::Record;
+use program::{End, Program, Stop};
+use std::fmt;
+use std::fmt::{Display, Formatter};
 use translation::Mode;
 
-// The first line: the counts, and the depth of the RM3 table.
-fn head(c: Counts, ops: usize, depth: usize) -> Line {
-    Line::empty()
-        .word(b"inputs ")
-        .number(c.inputs as u64)
-        .word(b" ops ")
-        .number(ops as u64)
-        .word(b" outputs ")
-        .number(c.outputs as u64)
-        .word(b" depth ")
-        .number(depth as u64)
+// An operation, and the operand that it is; or an output.
+#[derive(Clone, Copy)]
+struct Listed {
+    record: Record,
+    operand: usize,
 }
 
-// The line of an operation, number being its operand, or of an output.
-fn shown(r: Record, number: usize) -> Line {
-    if r.kind == majority::OUTPUT {
-        return Line::empty().word(b"out ").number(r.e1 as u64);
-    }
-    Line::empty()
-        .number(number as u64)
-        .word(b" ")
-        .number(r.e1 as u64)
-        .word(b" ")
-        .number(r.e2 as u64)
-        .word(b" ")
-        .number(r.e3 as u64)
-}
-
-// Lists the records behind the inputs, until a line cannot be written; record i, an operation, is operand i + 2.
-fn list(program: Program<'_>, out: &[u8; rm3::MOST_BYTES], inputs: usize, records: usize) -> End
-    requires { records ≤ 3168 }
-{
-    let mut i = inputs;
-    while i < records {
-        let line = shown(tables::record_at(out, i), i + 2).word(b"\n");
-        if !program::write_line(program.rt(), STDOUT_FILENO, line) {
-            return program.written(false, End::Accepted);
+impl Display for Listed {
+    fn fmt<W: fmt::Write>(&self, f: &mut Formatter<W>) -> fmt::Result {
+        let Record {
+            kind,
+            e1,
+            e2,
+            e3,
+            ..
+        } = self.record;
+        if kind == majority::OUTPUT {
+            return write!(f, "out {e1}");
         }
-        i += 1;
-    }
-    End::Accepted
-}
-
-// Prints the first line, and lists what follows it.
-fn listed(
-    program: Program<'_>,
-    first: Line,
-    out: &[u8; rm3::MOST_BYTES],
-    inputs: usize,
-    records: usize,
-) -> End
-    requires { records ≤ 3168 }
-{
-    match program.put(STDOUT_FILENO, first, End::Accepted) {
-        End::Failed => End::Failed,
-        _ => list(program, out, inputs, records),
+        write!(f, "{} {e1} {e2} {e3}", self.operand)
     }
 }
 
-// Lists the RM3 table of the first used bytes, which are the table. Where the check accepts it, no later call refuses it: the buffer holds
-// any RM3 table. What each would say is said all the same.
-#[tactic(auto, using(rm3::proofs::Replies::reply_counts, rm3::proofs::Replies::reply_fits))]
-fn answer(program: Program<'_>, mode: Mode, table: &[u8; program::MOST_BYTES], used: usize) -> End {
-    let mut out = [0u8; rm3::MOST_BYTES];
-    match tables::check(table, used) {
-        Checked::Accepted(c) => match rm3::translate(mode, table, used, &mut out) {
-            Translated::Length(length) => match rm3::rm3_depth(table, used) {
-                Depth::Depth(depth) => {
-                    let records = length / 8;
-                    let first = head(c, records - (c.inputs + c.outputs), depth);
-                    listed(program, first, &out, c.inputs, records)
-                }
-                Depth::Refused(r) => program.refused(STDOUT_FILENO, r),
-            },
-            Translated::Refused(r) => program.refused(STDOUT_FILENO, r),
-        },
-        Checked::Refused(r) => program.refused(STDOUT_FILENO, r),
-    }
-}
-
-// Lists the RM3 table, in this mode, of the table on standard input, or prints the refusal that it meets.
-pub fn run(program: Program<'_>, mode: Mode) -> End {
+// Lists the RM3 table, in this mode, of the table on standard input. Where the check accepts that, no later call refuses it: the buffer holds any RM3
+// table. What each would say is said all the same.
+#[tactic(auto, using(rm3::proofs::Replies::reply_counts))]
+pub fn answer(program: Program<'_>, mode: Mode) -> Result<End, Stop> {
     let mut table = [0u8; program::MOST_BYTES];
-    match program.read_table(&mut table, STDOUT_FILENO) {
-        Input::Table(used) => answer(program, mode, &table, used),
-        Input::None(end) => end,
+    let used = program.read_table(&mut table)?;
+    let counts = tables::check(&table, used)?;
+    let mut out = [0u8; rm3::MOST_BYTES];
+    let length = rm3::translate(mode, &table, used, &mut out)?;
+    let depth = rm3::rm3_depth(&table, used)?;
+    let records = length / 8;
+    program.println(format_args!(
+        "inputs {} ops {} outputs {} depth {depth}",
+        counts.inputs,
+        records - (counts.inputs + counts.outputs),
+        counts.outputs
+    ))?;
+    for i in counts.inputs..records {
+        program.println(Listed {
+            record: tables::record_at(&out, i),
+            operand: i + 2,
+        })?;
     }
+    Ok(End::Accepted)
 }

@@ -9,19 +9,20 @@ use native.Mathlib.Decide.{dec_lt}
 use borrow.Author.Tests.{ltb-false, le-ltb, eq-eqb, ne_eqb, eqb-true, not-false}
 use lib.Dec.{ltb, eqb}
 use lib.ListN.{length}
-use Rattle.refusals.specs.Why.{why, why_at}
 use Rattle.majority.specs.Edge.{node_of}
 use Rattle.majority.specs.Seek.{first}
 use Rattle.majority.specs.Table.{input, output, record_at, Below, WellFormed, WithinLimits}
-use Rattle.refusals.specs.Reply.{accepted}
 use Rattle.majority.specs.Check.{counts, bad_kind_at, count, counts_of, bad_counts, not_zero, past, first_of, bad_edge, faulty, fault_of, faulty_at, check_fields, check_kinds, check_records}
 use Rattle.majority.specs.declared.Record.{Record}
 use Rattle.majority.specs.declared.Counts.{Counts}
 use Rattle.majority.proofs.Logic.{neither, passed, passed_on}
 use Rattle.majority.proofs.Seek.{all_fail, nothing_there}
 use Rattle.majority.proofs.Order.{InOrder, in_order, all_counted, order_good, order_counts}
+use Rattle.std.specs.Prelude.{Result, Ok}
+use Rattle.refusals.specs.declared.Refusal.{Refusal}
+use Rattle.refusals.specs.declared.Refusal.TheVariants as refusal
 
-accepted_once : (c d : Counts) → accepted c ≡ accepted d → c ≡ d
+accepted_once : (c d : Counts) → ◌≡◌ {A = Result Counts Refusal} (Ok c) (Ok d) → c ≡ d
 accepted_once c d e = cc
 
 -- the tests of a record of each kind
@@ -120,14 +121,14 @@ formed_of n m o rs all s fine = record {
   outputs = λ j p q. output_of _ j _ (s.outputs j p q) (fine j (omega arith));
 }
 
-pub acceptance : (n m o : ℕ) (rs : List Record) → check_records rs ≡ accepted (counts n m o) → Accepted n m o rs
+pub acceptance : (n m o : ℕ) (rs : List Record) → check_records rs ≡ Ok (counts n m o) → Accepted n m o rs
 unfolding check_records check_kinds check_fields faulty_at
 acceptance n m o rs e =
-    let s1 = passed_on _ (why_at 2 _) (counts_of rs) _ _ e in
-    let s2 = passed (bad_counts (counts_of rs)) (why 3) (check_fields (counts_of rs) rs) _ s1.1 in
+    let s1 = passed_on _ (refusal.Kind _) (counts_of rs) _ _ e in
+    let s2 = passed (bad_counts (counts_of rs)) refusal.Count (check_fields (counts_of rs) rs) _ s1.1 in
     let last = count 1 rs + count 2 rs in
     let bad = first (faulty_at last rs) (length rs) in
-    let s3 = passed (ltb bad (length rs)) (fault_of last bad (record_at rs bad)) (accepted (counts_of rs)) _ s2.1 in
+    let s3 = passed (ltb bad (length rs)) (fault_of last bad (record_at rs bad)) (Ok (counts_of rs)) _ s2.1 in
     let same : counts_of rs ≡ counts n m o = accepted_once _ _ s3.1 in
     let en : count 1 rs ≡ n = ap (λ (c : Counts). c.inputs) same in
     let em : count 2 rs ≡ m = ap (λ (c : Counts). c.gates) same in
@@ -151,7 +152,7 @@ fine_of n m o rs f j h = go (dec_lt j n) (dec_lt j (n + m))
     go (no p) (yes q) = let w = f.gates j (omega arith) q in of_gate _ j _ w.0 w.1
     go (no p) (no q) = let w = f.outputs j (omega arith) h in of_output _ j _ w.0 w.1
 
-pub accepts : (n m o : ℕ) (rs : List Record) → Accepted n m o rs → check_records rs ≡ accepted (counts n m o)
+pub accepts : (n m o : ℕ) (rs : List Record) → Accepted n m o rs → check_records rs ≡ Ok (counts n m o)
 unfolding check_records check_kinds check_fields faulty_at
 accepts n m o rs a =
     let order = order_of n m o rs a.formed in

@@ -3,9 +3,9 @@ use Prim.Native.Nat.{ℕ}
 use mathlib.Core.Path.{◌≡◌, refl, sym}
 use mathlib.Core.Bool.{Bool, true, false, true≢false, ◌||◌, ◌&&◌}
 use native.Mathlib.Omega.{arith}
-use Rattle.std.specs.Prelude.{if◌then◌else◌}
-use Rattle.refusals.specs.Why.{Why}
-use Rattle.refusals.specs.Reply.{Reply, accepted, refused, and_then}
+use Rattle.std.specs.Prelude.{if◌then◌else◌, Result, Ok, Err}
+use Rattle.refusals.specs.declared.Refusal.{Refusal}
+use Rattle.refusals.specs.Reply.{◌>>=◌}
 
 pub neither : (a b : Bool) → (a || b) ≡ false → (a ≡ false) × (b ≡ false)
 neither true b e = absurd (true≢false e)
@@ -16,11 +16,11 @@ both true b e = (refl, e)
 both false b e = absurd (true≢false (sym e))
 
 -- a test that would refuse did not
-pub passed : {A : Type 0} (t : Bool) (w : Why) (x : Reply A) (a : A) → (if t then refused w else x) ≡ accepted a → (t ≡ false) × (x ≡ accepted a)
+pub passed : {A : Type 0} (t : Bool) (w : Refusal) (x : Result A Refusal) (a : A) → (if t then Err w else x) ≡ Ok a → (t ≡ false) × (x ≡ Ok a)
 passed true w x a e = let z : ◌≡◌ {A = ℕ} 0 1 = cc in absurd (omega arith)
 passed false w x a e = (refl, e)
 
 -- a test that would refuse did not, nor did what followed it
-pub passed_on : {A B : Type 0} (t : Bool) (w : Why) (x : A) (f : A → Reply B) (b : B) → and_then (if t then refused w else accepted x) f ≡ accepted b → (t ≡ false) × (f x ≡ accepted b)
+pub passed_on : {A B : Type 0} (t : Bool) (w : Refusal) (x : A) (f : A → Result B Refusal) (b : B) → ◌>>=◌ (if t then Err w else Ok x) f ≡ Ok b → (t ≡ false) × (f x ≡ Ok b)
 passed_on true w x f b e = let z : ◌≡◌ {A = ℕ} 0 1 = cc in absurd (omega arith)
 passed_on false w x f b e = (refl, e)

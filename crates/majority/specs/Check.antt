@@ -1,12 +1,13 @@
 -- Refusals 2 to 5 over the records of a table, in their order (SPEC 3).
-use Rattle.std.specs.Prelude.{ℕ, zero, suc, ◌+◌, Bool, false, not, ◌||◌, List, [], ◌∷◌, length, ltb, eqb, if◌then◌else◌}
-use Rattle.refusals.specs.Why.{Why, why, why_at, why_edge}
-use Rattle.refusals.specs.Reply.{Reply, accepted, refused, and_then}
+use Rattle.std.specs.Prelude.{ℕ, zero, suc, ◌+◌, Bool, false, not, ◌||◌, List, [], ◌∷◌, length, ltb, eqb, if◌then◌else◌, Result, Ok, Err}
 use Rattle.majority.specs.Edge.{node_of}
 use Rattle.majority.specs.Seek.{first}
 use Rattle.majority.specs.Table.{record_at}
 use Rattle.majority.specs.declared.Record.{Record}
 use Rattle.majority.specs.declared.Counts.{Counts}
+use Rattle.refusals.specs.declared.Refusal.{Refusal}
+use Rattle.refusals.specs.declared.Refusal.TheVariants as refusal
+use Rattle.refusals.specs.Reply.{◌>>=◌}
 
 -- 2: a kind is not 1 to 3, or is lower than the kind before it
 abbrev pub bad_kind : ℕ → ℕ → Bool
@@ -64,25 +65,27 @@ unfoldable pub faulty : ℕ → ℕ → Record → Bool
 faulty last i r = not_zero r || ltb 0 (bad_edge last i r)
 
 -- the refusal of a record i that has a fault, 4 before 5
-unfoldable pub fault_of : ℕ → ℕ → Record → Why
-fault_of last i r = if not_zero r then why_at 4 i else why_edge i (bad_edge last i r)
+unfoldable pub fault_of : ℕ → ℕ → Record → Refusal
+fault_of last i r = if not_zero r then refusal.NotZero i else refusal.Edge i (bad_edge last i r)
 
 unfoldable pub faulty_at : ℕ → List Record → ℕ → Bool
 faulty_at last rs i = faulty last i (record_at rs i)
 
 -- 4 and 5 by the first bad record, of a table with these counts
-unfoldable pub check_fields : Counts → List Record → Reply Counts
+unfoldable pub check_fields : Counts → List Record → Result Counts Refusal
 check_fields c rs =
     let last = c.inputs + c.gates in
     let bad = first (faulty_at last rs) (length rs) in
-    if ltb bad (length rs) then refused (fault_of last bad (record_at rs bad)) else accepted c
+    if ltb bad (length rs) then Err (fault_of last bad (record_at rs bad)) else Ok c
 
 -- 2 over all records, for the first bad one, or the counts found
-unfoldable pub check_kinds : List Record → Reply Counts
+unfoldable pub check_kinds : List Record → Result Counts Refusal
 check_kinds rs =
     let bad = first (bad_kind_at rs) (length rs) in
-    if ltb bad (length rs) then refused (why_at 2 bad) else accepted (counts_of rs)
+    if ltb bad (length rs) then Err (refusal.Kind bad) else Ok (counts_of rs)
 
 -- 2, then 3, then 4 and 5
-unfoldable pub check_records : List Record → Reply Counts
-check_records rs = and_then (check_kinds rs) (λ c. if bad_counts c then refused (why 3) else check_fields c rs)
+unfoldable pub check_records : List Record → Result Counts Refusal
+check_records rs = do
+  c ← check_kinds rs
+  if bad_counts c then Err refusal.Count else check_fields c rs

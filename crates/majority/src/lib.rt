@@ -6,7 +6,7 @@ ghost use Rattle.majority.specs.Edge.{node_of, is_inverted, flip, redirect};
 ghost use Rattle.majority.specs.Value.{majority_of};
 
 // A record of a table: its kind, its block and its three fields.
-#[derive(Clone, Copy)]
+#[derive(Clone, Copy, Debug, PartialEq, Eq)]
 pub struct Record {
     pub kind: u8,
     pub block: u8,
@@ -15,8 +15,19 @@ pub struct Record {
     pub e3: u16,
 }
 
+impl Record {
+    // A record of no kind, which stands for what is past the end of a table.
+    pub const BLANK: Record = Record {
+        kind: 0,
+        block: 0,
+        e1: 0,
+        e2: 0,
+        e3: 0,
+    };
+}
+
 // How many inputs, gates and outputs a table has.
-#[derive(Clone, Copy)]
+#[derive(Clone, Copy, Debug, PartialEq, Eq)]
 pub struct Counts {
     pub inputs: usize,
     pub gates: usize,

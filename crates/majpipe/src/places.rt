@@ -1,131 +1,72 @@
 // The places of a request and of its reply: numbers of two bytes each, or of eight, the low byte first.
-ghost use Rattle.std.specs.Prelude.{◌+◌, ◌≤◌, length};
-ghost use Rattle.majpipe.specs.inner.Part.{Few};
+ghost use Rattle.std.specs.Prelude.{◌<◌, ◌≤◌, length, IfOk};
 
-use crate::input::{Fault, Part, Word, read_bytes, read_number};
-use program::STDOUT_FILENO;
+use crate::input::{Fault, fill, read_number};
+use crate::reply::write;
+use program::Program;
 
-// The most places that a request may have, and the most bytes that they take.
+// The most places that a request may have.
 pub const MOST_PLACES: usize = 8192;
 
-pub const MOST_BYTES: usize = 8 * MOST_PLACES;
+// A number that a place holds, by its bytes, the low one first.
+pub trait Place<const WIDTH: usize>: Copy {
+    fn of(bytes: [u8; WIDTH]) -> Self;
 
-// So many numbers of this many bytes each.
-fn read_numbers(rt: &HostRuntime, bytes: &mut [u8; MOST_BYTES], width: u32, count: u32) -> Part
-    requires { width ≤ 8 }
-    ensures { Few result }
+    fn bytes(self) -> [u8; WIDTH];
+}
+
+impl Place<2> for u16 {
+    fn of(bytes: [u8; 2]) -> u16 {
+        u16::from_le_bytes(bytes)
+    }
+
+    fn bytes(self) -> [u8; 2] {
+        self.to_le_bytes()
+    }
+}
+
+impl Place<8> for u64 {
+    fn of(bytes: [u8; 8]) -> u64 {
+        u64::from_le_bytes(bytes)
+    }
+
+    fn bytes(self) -> [u8; 8] {
+        self.to_le_bytes()
+    }
+}
+
+// A count, and then so many numbers, which go to the first places.
+pub(crate) fn read_places<'a, const WIDTH: usize, P: Place<WIDTH>>(
+    program: Program<'_>,
+    places: &'a mut [P; MOST_PLACES],
+) -> Result<&'a mut [P], Fault>
+    requires { (0 < WIDTH) × (WIDTH ≤ 8) }
+    ensures { IfOk result (λ part. length part.now ≤ 8192) }
 {
-    if 8192 < count {
-        return Part::Not(Fault::TooMany(count));
+    let count = read_number(program)?;
+    let mut numbers = [[0u8; WIDTH]; MOST_PLACES];
+    let places = places
+        .get_mut(..count as usize)
+        .ok_or(Fault::TooMany(count))?;
+    let numbers = &mut numbers[..places.len()];
+    fill(program, numbers.as_flattened_mut())?;
+    for (place, number) in places.iter_mut().zip(numbers.iter()) {
+        *place = P::of(*number);
     }
-    match read_bytes(rt, bytes, width * count) {
-        Part::Bytes(_) => Part::Bytes(count as usize),
-        Part::Not(fault) => Part::Not(fault),
-    }
+    Ok(places)
 }
 
-// A count, and then so many numbers of this many bytes each, which go to the start of the bytes.
-pub(crate) fn read_places(rt: &HostRuntime, bytes: &mut [u8; MOST_BYTES], width: u32) -> Part
-    requires { width ≤ 8 }
-    ensures { Few result }
+// Writes each place.
+pub(crate) fn write_places<const WIDTH: usize, P: Place<WIDTH>>(
+    program: Program<'_>,
+    places: &[P],
+) -> Result<(), Fault>
+    requires { (0 < WIDTH) × (WIDTH ≤ 8) × (length places.now ≤ 8192) }
 {
-    match read_number(rt) {
-        Word::Number(count) => read_numbers(rt, bytes, width, count),
-        Word::Not(fault) => Part::Not(fault),
+    let mut numbers = [[0u8; WIDTH]; MOST_PLACES];
+    let numbers = &mut numbers[..places.len()];
+    for (number, place) in numbers.iter_mut().zip(places) {
+        *number = place.bytes();
     }
-}
-
-// A byte as a number to shift.
-fn wide(byte: u8) -> u64 {
-    byte as u64
-}
-
-// The number that stands in so many bytes from `at` on.
-fn number_at(bytes: &[u8; MOST_BYTES], at: usize, width: usize) -> u64
-    requires { at + width ≤ 65536 }
-{
-    let mut number: u64 = 0;
-    let mut k = width;
-    while 0 < k {
-        k -= 1;
-        number = number << 8 | wide(bytes[at + k]);
-    }
-    number
-}
-
-// The low byte.
-fn low(number: u64) -> u8 {
-    (number % 256) as u8
-}
-
-// Puts a number into so many bytes from `at` on.
-fn put_number(bytes: &mut [u8; MOST_BYTES], at: usize, width: usize, number: u64)
-    requires { at + width ≤ 65536 }
-{
-    let mut rest = number;
-    let mut k = 0;
-    while k < width {
-        bytes[at + k] = low(rest);
-        rest /= 256;
-        k += 1;
-    }
-}
-
-// The low 16 bits, and 16 bits as a longer number.
-fn short(number: u64) -> u16 {
-    (number % 65536) as u16
-}
-
-fn long(number: u16) -> u64 {
-    number as u64
-}
-
-// Sets the places from the bytes of the request.
-pub(crate) fn take_short(places: &mut [u16], bytes: &[u8; MOST_BYTES])
-    requires { length places.old ≤ 8192 }
-{
-    let mut i = 0;
-    while i < places.len() {
-        places[i] = short(number_at(bytes, 2 * i, 2));
-        i += 1;
-    }
-}
-
-pub(crate) fn take_long(places: &mut [u64], bytes: &[u8; MOST_BYTES])
-    requires { length places.old ≤ 8192 }
-{
-    let mut i = 0;
-    while i < places.len() {
-        places[i] = number_at(bytes, 8 * i, 8);
-        i += 1;
-    }
-}
-
-// Puts the places into the bytes of the reply.
-pub(crate) fn give_short(bytes: &mut [u8; MOST_BYTES], places: &[u16])
-    requires { length places.now ≤ 8192 }
-{
-    let mut i = 0;
-    while i < places.len() {
-        put_number(bytes, 2 * i, 2, long(places[i]));
-        i += 1;
-    }
-}
-
-pub(crate) fn give_long(bytes: &mut [u8; MOST_BYTES], places: &[u64])
-    requires { length places.now ≤ 8192 }
-{
-    let mut i = 0;
-    while i < places.len() {
-        put_number(bytes, 8 * i, 8, places[i]);
-        i += 1;
-    }
-}
-
-// Writes the first so many bytes, and answers whether all were written.
-pub fn write_first(rt: &HostRuntime, bytes: &[u8], length: usize) -> bool {
-    if bytes.len() < length {
-        return false;
-    }
-    program::write_whole(rt, STDOUT_FILENO, &bytes[..length])
+    write(program, numbers.as_flattened())
 }

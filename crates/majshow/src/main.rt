@@ -2,98 +2,108 @@
 #![tactic(auto)]
 
 use majority::Record;
-use program::{Called, End, Input, Program, STDOUT_FILENO};
-use tables::Checked;
-use text::Line;
+use program::{About, End, NO_ARGUMENT, Program, Stop};
+use std::fmt;
+use std::fmt::{Display, Formatter};
 
-// The line with a node after its text: x and its number for an input, g and its number for a gate.
-fn node(line: Line, number: usize, inputs: usize) -> Line {
-    if number <= inputs {
-        return line.word(b"x").number(number as u64);
-    }
-    line.word(b"g").number(number as u64)
-}
+const ABOUT: About<'static> = About {
+    name: "majshow",
+    usage: "majshow < TABLE",
+    help: "Shows the majority table on standard input, of at most 8704 bytes, in words.\nArguments: none.\nWrites a line a record: `x1` an input, `g4 = M(x1, !x2, 1)` a gate, the majority of three edges, with ` block B` after it\nwhere its block B is not 0, `out !g6` an output; or `refused N at R E`, or `too long`.\n",
+    ..NO_ARGUMENT
+};
 
-// The line with an edge after its text: 0 or 1 for a constant, otherwise its node, behind a ! where the edge is inverted.
-fn edge(line: Line, e: u16, inputs: usize) -> Line {
-    if e < 2 {
-        return line.number(e as u64);
-    }
-    let number = majority::node(e) as usize;
-    if majority::inverted(e) {
-        return node(line.word(b"!"), number, inputs);
-    }
-    node(line, number, inputs)
-}
-
-// The line of a gate with its block after its text, where that is not 0.
-fn block(line: Line, number: u8) -> Line {
-    if number == 0 {
-        return line;
-    }
-    line.word(b" block ").number(number as u64)
-}
-
-// What is shown of a record, number being its node where it is one.
-fn shown(r: Record, number: usize, inputs: usize) -> Line {
-    if r.kind == majority::OUTPUT {
-        return edge(Line::empty().word(b"out "), r.e1, inputs);
-    }
-    let line = node(Line::empty(), number, inputs);
-    if r.kind == majority::GATE {
-        let first = edge(line.word(b" = M("), r.e1, inputs);
-        let second = edge(first.word(b", "), r.e2, inputs);
-        let third = edge(second.word(b", "), r.e3, inputs);
-        return block(third.word(b")"), r.block);
-    }
-    line
-}
-
-// Shows each record, the first being node 1, until a line cannot be written.
-fn show(
-    program: Program<'_>,
-    table: &[u8; program::MOST_BYTES],
-    records: usize,
+// A node of a table of so many inputs: x and its number for an input, g and its number for a gate.
+#[derive(Clone, Copy)]
+struct Node {
+    number: usize,
     inputs: usize,
-) -> End {
-    let mut i: usize = 0;
-    while i < records {
-        let r = tables::record_at(table, i);
-        i += 1;
-        let line = shown(r, i, inputs).word(b"\n");
-        if !program::write_line(program.rt(), STDOUT_FILENO, line) {
-            return program.written(false, End::Accepted);
+}
+
+// An edge: 0 or 1 for a constant, otherwise its node, behind a ! where the edge is inverted.
+#[derive(Clone, Copy)]
+struct Edge {
+    edge: u16,
+    inputs: usize,
+}
+
+// A record, and the node that it is where it is one.
+#[derive(Clone, Copy)]
+struct Shown {
+    record: Record,
+    node: Node,
+}
+
+impl Display for Node {
+    fn fmt<W: fmt::Write>(&self, f: &mut Formatter<W>) -> fmt::Result {
+        let letter = if self.number <= self.inputs { "x" } else { "g" };
+        write!(f, "{letter}{}", self.number)
+    }
+}
+
+impl Display for Edge {
+    fn fmt<W: fmt::Write>(&self, f: &mut Formatter<W>) -> fmt::Result {
+        if self.edge < 2 {
+            return write!(f, "{}", self.edge);
+        }
+        let sign = if majority::inverted(self.edge) {
+            "!"
+        } else {
+            ""
+        };
+        let node = Node {
+            number: majority::node(self.edge) as usize,
+            inputs: self.inputs,
+        };
+        write!(f, "{sign}{node}")
+    }
+}
+
+impl Shown {
+    fn edge(self, edge: u16) -> Edge {
+        Edge {
+            edge,
+            inputs: self.node.inputs,
         }
     }
-    End::Accepted
 }
 
-// Shows the first used bytes, which are the table.
-fn answer(program: Program<'_>, table: &[u8; program::MOST_BYTES], used: usize) -> End {
-    match tables::check(table, used) {
-        Checked::Accepted(c) => show(program, table, used / 8, c.inputs),
-        Checked::Refused(r) => program.refused(STDOUT_FILENO, r),
+impl Display for Shown {
+    fn fmt<W: fmt::Write>(&self, f: &mut Formatter<W>) -> fmt::Result {
+        let Shown { record, node } = *self;
+        let first = self.edge(record.e1);
+        match record.kind {
+            majority::OUTPUT => write!(f, "out {first}"),
+            majority::GATE => {
+                let second = self.edge(record.e2);
+                let third = self.edge(record.e3);
+                write!(f, "{node} = M({first}, {second}, {third})")?;
+                if record.block != 0 {
+                    write!(f, " block {}", record.block)?;
+                }
+                Ok(())
+            }
+            _ => write!(f, "{node}"),
+        }
     }
 }
 
-fn run(program: Program<'_>) -> End {
+fn answer(program: Program<'_>) -> Result<End, Stop> {
     let mut table = [0u8; program::MOST_BYTES];
-    match program.read_table(&mut table, STDOUT_FILENO) {
-        Input::Table(used) => answer(program, &table, used),
-        Input::None(end) => end,
+    let used = program.read_table(&mut table)?;
+    let counts = tables::check(&table, used)?;
+    for i in 0..used / 8 {
+        program.println(Shown {
+            record: tables::record_at(&table, i),
+            node: Node {
+                number: i + 1,
+                inputs: counts.inputs,
+            },
+        })?;
     }
+    Ok(End::Accepted)
 }
 
 fn main(rt: HostRuntime) {
-    let program = Program::begun(&rt, b"majshow");
-    match program.called(
-        0,
-        b"",
-        b"it takes no argument",
-        b"majshow < TABLE",
-        b"Shows the majority table on standard input, of at most 8704 bytes, in words.\nArguments: none.\nWrites a line a record: `x1` an input, `g4 = M(x1, !x2, 1)` a gate, the majority of three edges, with ` block B` after it\nwhere its block B is not 0, `out !g6` an output; or `refused N at R E`, or `too long`.\n",
-    ) {
-        Called::Rightly => program.end(run(program)),
-        Called::Done(end) => program.end(end),
-    }
+    program::run(&rt, ABOUT, answer);
 }

@@ -3,22 +3,22 @@
 
 mod reads;
 mod reasons;
+mod stops;
 mod writes;
 
+ghost use Rattle.std.specs.Prelude.{◌≡◌, ◌≤◌, IfOk, IfErr};
 ghost use Rattle.io.specs.Counts.{IsPrefixLen};
 
-pub use reads::{Got, error_number, read_whole};
+pub use reads::read_whole;
 use reasons::reason;
 pub use reasons::{EBADF, EILSEQ};
-use refusals::Refusal;
 use std::env::{Env, FillError};
-use text::{Decimal, Line};
-pub use writes::write_whole;
-
-// The numbers of standard output and standard error.
-pub const STDOUT_FILENO: i32 = 1;
-
-pub const STDERR_FILENO: i32 = 2;
+use std::fmt::{Display, Write as _};
+use std::io;
+use std::io::Write as _;
+pub use stops::Stop;
+use text::Line;
+pub use writes::Stream;
 
 // How a program ends: what it was asked was accepted and its answer is written whole; or it was refused, stopped or too long; or the program
 // was called wrongly, or its input or output failed.
@@ -29,279 +29,308 @@ pub enum End {
     Failed,
 }
 
-// A program as it was called: its name, the file that its status goes to, below 0 for none, and which of its arguments is the first of its own.
+// What a program says of itself: how it is called, how many arguments it takes at least and at most, what it says where there are fewer, where there
+// are more, and where one is wrong; what it does; and where it says that a table is refused or too long.
+#[derive(Clone, Copy)]
+pub struct About<'a> {
+    pub name: &'a str,
+    pub usage: &'a str,
+    pub fewest: usize,
+    pub most: usize,
+    pub missing: &'a str,
+    pub superfluous: &'a str,
+    pub wrong: &'a str,
+    pub help: &'a str,
+    pub refusals: Stream,
+}
+
+// What a program says that takes no argument.
+pub const NO_ARGUMENT: About<'static> = About {
+    name: "",
+    usage: "",
+    fewest: 0,
+    most: 0,
+    missing: "",
+    superfluous: "it takes no argument",
+    wrong: "",
+    help: "",
+    refusals: Stream::Output,
+};
+
+// A program as it was called: its name, and the number of the file that its status goes to.
 #[derive(Clone, Copy)]
 pub struct Program<'a> {
     rt: &'a HostRuntime,
     name: Line,
-    status: i32,
-    first: usize,
+    status: Option<u16>,
 }
 
-// What is to be done: to go on, or nothing more.
-#[derive(Clone, Copy)]
-pub enum Called {
-    Rightly,
-    Done(End),
-}
+// The most bytes of an argument that is a word, and of one that is a number or a path.
+const WORD: usize = 4096;
 
-// What stands on standard input: a table of so many bytes; or none, as was said already.
-#[derive(Clone, Copy)]
-pub enum Input {
-    Table(usize),
-    None(End),
-}
+pub const LONGEST: usize = 65536;
 
 // The most bytes that a table has: 32 inputs, 1,024 gates and 32 outputs.
 pub const MOST_BYTES: usize = 8704;
 
-// The file that a text of the form --status=N names, or -1.
-fn file_named(text: &[u8]) -> i32 {
-    if text.len() < 10 {
-        return -1;
-    }
-    if !check::same(&text[..9], b"--status=") {
-        return -1;
-    }
-    match text::number_of(&text[9..]) {
-        Decimal::Number(n) => if n < 65536 { n as i32 } else { -1 },
-        Decimal::Other => -1,
-    }
+// What standard error says where a write did not succeed.
+const UNWRITTEN: &str = "the output could not be written whole";
+
+// The end of each program's help.
+const STATUSES: &str =
+    "Status, by run and by what install puts elsewhere: 0 accepted and written whole; 1 refused, stopped or too long;\n2 bad usage, or input or output that failed.\n";
+
+// The file that a text of the form --status=N names.
+fn file_named(text: &[u8]) -> Option<u16> {
+    let number = text::number_of(text.strip_prefix(b"--status=")?)?;
+    u16::try_from(number).ok()
 }
 
 // Puts argument i at the start of the buffer, and answers its length, 0 where there is none or the buffer is shorter.
 fn argument_at(rt: &HostRuntime, i: usize, buffer: &mut [u8]) -> usize
     ensures { IsPrefixLen result buffer.new }
 {
-    match rt.arg(i, buffer) {
-        Ok(n) => n,
-        Err(_) => 0,
-    }
+    rt.arg(i, buffer).unwrap_or(0)
 }
 
-// The file that the first argument asks the status to be written to, or -1. No program has another use for such an argument.
-fn status_file(rt: &HostRuntime) -> i32 {
-    let mut word = io::buffer();
+// The file that the first argument asks the status to be written to. No program has another use for such an argument.
+fn status_file(rt: &HostRuntime) -> Option<u16> {
+    let mut word = [0u8; WORD];
     let len = argument_at(rt, 1, &mut word);
     file_named(&word[..len])
 }
 
-// Writes the text of a line to a file, and answers whether all of it was written.
-pub fn write_line(rt: &HostRuntime, fd: i32, line: Line) -> bool {
-    let bytes = line.bytes();
-    let len = line.length();
-    let whole: &[u8; text::WIDTH] = &bytes;
-    let text: &[u8] = whole;
-    if len < text.len() {
-        return write_whole(rt, fd, &text[..len]);
-    }
-    write_whole(rt, fd, text)
+// What follows a write.
+fn written(write: io::Result<()>) -> Result<(), Stop>
+    ensures { IfErr result (λ stop. stop ≡ Stop.Unwritten) }
+{
+    write.or(Err(Stop::Unwritten))
+}
+
+// A line with a text, cut where the line is full.
+fn line<D: Display + Drop>(text: D) -> Result<Line, Stop>
+    ensures { IfErr result (λ stop. stop ≡ Stop.Unwritten) }
+{
+    let mut line = Line::empty();
+    write!(line, "{text}").or(Err(Stop::Unwritten))?;
+    Ok(line)
+}
+
+// Runs a program's work where it was called rightly, says what keeps it from its answer, and writes the status where it was asked for.
+pub fn run<'a, W: FnOnce(Program<'a>) -> Result<End, Stop> + Drop>(
+    rt: &'a HostRuntime,
+    about: About<'_>,
+    work: W,
+)
+    requires { W.IsAlwaysCallable work }
+{
+    let program = Program {
+        rt,
+        name: Line::empty().word(about.name.as_bytes()),
+        status: status_file(rt),
+    };
+    let end = match program.answer(about, work) {
+        Ok(end) => end,
+        Err(stop) => program.say(about, stop),
+    };
+    program.end(end);
 }
 
 impl<'a> Program<'a> {
-    // The program of this name, as it was called.
-    pub fn begun(rt: &'a HostRuntime, name: &[u8]) -> Program<'a> {
-        let name = Line::empty().word(name);
-        let status = status_file(rt);
-        if status < 0 {
-            return Program {
-                rt,
-                name,
-                status,
-                first: 1,
-            };
-        }
-        Program {
-            rt,
-            name,
-            status,
-            first: 2,
-        }
-    }
-
     // What the program reads and writes with.
     pub fn rt(self) -> &'a HostRuntime {
         self.rt
     }
 
-    // Writes the status where it was asked for: the program's last word.
-    pub fn end(self, end: End) {
-        if self.status < 0 {
-            return;
-        }
-        match end {
-            End::Accepted => write_whole(self.rt, self.status, b"0"),
-            End::Refused => write_whole(self.rt, self.status, b"1"),
-            End::Failed => write_whole(self.rt, self.status, b"2"),
-        };
-    }
-
-    // Puts its first own argument at the start of the buffer, and answers its length, 0 where the buffer is shorter.
-    pub fn argument(self, buffer: &mut [u8]) -> usize
-        ensures { IsPrefixLen result buffer.new }
+    // Helps where that is asked for, looks at how many arguments there are, and does the work.
+    fn answer<W: FnOnce(Program<'a>) -> Result<End, Stop> + Drop>(
+        self,
+        about: About<'_>,
+        work: W,
+    ) -> Result<End, Stop>
+        requires { W.IsAlwaysCallable work }
     {
-        argument_at(self.rt, self.first, buffer)
-    }
-
-    // A line that begins with the program's name.
-    pub fn line(self) -> Line {
-        let name = self.name;
-        name.word(b": ")
-    }
-
-    // Says on standard error what went wrong.
-    pub fn failed(self, line: Line) -> End {
-        write_line(self.rt, STDERR_FILENO, line.word(b"\n"));
-        End::Failed
-    }
-
-    // Says what is wrong with the call, and how the program is called.
-    pub fn misused(self, wrong: &[u8], usage: &[u8]) -> End {
-        self.failed(self.line().word(wrong).word(b"; call it as: ").word(usage))
-    }
-
-    // How the program ends whose output was written, whole or not.
-    pub fn written(self, whole: bool, end: End) -> End {
-        if whole {
-            return end;
+        if self.asked_for_help() {
+            return self.help(about);
         }
-        self.failed(self.line().word(b"the output could not be written whole"))
-    }
-
-    // Ends the line and writes it to standard output or standard error.
-    pub fn put(self, file: i32, line: Line, end: End) -> End {
-        self.written(write_line(self.rt, file, line.word(b"\n")), end)
-    }
-
-    // Says which refusal was met.
-    pub fn refused(self, file: i32, r: Refusal) -> End {
-        self.put(file, Line::empty().refused(r), End::Refused)
-    }
-
-    // Says why standard input could not be read.
-    pub fn unread(self, error: i32) -> End {
-        self.failed(reason(
-            self.line().word(b"standard input could not be read: "),
-            error,
-        ))
-    }
-
-    // Says why a file could not be read, and how the program is called.
-    pub fn unread_file(self, what: &[u8], path: &[u8], error: i32, usage: &[u8]) -> End {
-        write_line(self.rt, STDERR_FILENO, self.line().word(what).word(b" "));
-        show_path(self.rt, path);
-        let why = reason(Line::empty().word(b" could not be read: "), error);
-        self.failed(why.word(b"; call it as: ").word(usage))
-    }
-
-    // Reads a table from standard input. Where there are more bytes than a table may have, says so to a file.
-    pub fn read_table(self, buffer: &mut [u8; MOST_BYTES], file: i32) -> Input {
-        match read_whole(&mut self.rt.stdin(), buffer) {
-            Got::Bytes(n) => {
-                if n < MOST_BYTES {
-                    return Input::Table(n);
-                }
-                self.at_most(n, file)
-            }
-            Got::Failed(error) => Input::None(self.unread(error)),
+        let count = self.arguments();
+        if count < about.fewest {
+            return Err(Stop::Missing);
         }
+        if about.most < count {
+            return Err(Stop::Superfluous);
+        }
+        work(self)
     }
 
-    // The same after n bytes, the most that a table has: a byte more shows that the input is longer.
-    fn at_most(self, n: usize, file: i32) -> Input {
-        let mut past = [0u8; 1];
-        match read_whole(&mut self.rt.stdin(), &mut past) {
-            Got::Bytes(more) => {
-                if more < 1 {
-                    return Input::Table(n);
-                }
-                Input::None(self.put(file, Line::empty().word(b"too long"), End::Refused))
-            }
-            Got::Failed(error) => Input::None(self.unread(error)),
+    // The first of its own arguments.
+    fn first(self) -> usize {
+        match self.status {
+            Some(_) => 2,
+            None => 1,
         }
     }
 
     // How many arguments of its own the program has.
     pub fn arguments(self) -> usize {
         let mut none = [0u8; 1];
-        for i in self.first..usize::MAX {
-            match self.rt.arg(i, &mut none) {
-                Err(FillError::NotPresent) => return i - self.first,
-                _ => {}
+        let first = self.first();
+        for i in first..usize::MAX {
+            if let Err(FillError::NotPresent) = self.rt.arg(i, &mut none) {
+                return i - first;
             }
         }
         0
     }
 
+    // Puts its first own argument at the start of the buffer, and answers its length, 0 where the buffer is shorter.
+    pub fn argument(self, buffer: &mut [u8]) -> usize
+        ensures { IsPrefixLen result buffer.new }
+    {
+        argument_at(self.rt, self.first(), buffer)
+    }
+
+    // The number that its first own argument spells.
+    pub fn number(self) -> Result<u32, Stop>
+        ensures { IfErr result (λ stop. stop ≡ Stop.Wrong) }
+    {
+        let mut word = [0u8; LONGEST];
+        let len = self.argument(&mut word);
+        text::number_of(&word[..len]).ok_or(Stop::Wrong)
+    }
+
     // Its only argument is --help.
     fn asked_for_help(self) -> bool {
-        let mut word = io::buffer();
-        let len = argument_at(self.rt, self.first, &mut word);
-        (self.arguments() == 1) & check::same(&word[..len], b"--help")
+        let mut word = [0u8; WORD];
+        let len = self.argument(&mut word);
+        self.arguments() == 1 && &word[..len] == b"--help".as_slice()
     }
 
     // Prints how the program is called, what it does, and its statuses.
-    fn help(self, usage: &[u8], text: &[u8]) -> End {
-        let whole = write_whole(self.rt, STDOUT_FILENO, usage)
-            && write_whole(self.rt, STDOUT_FILENO, b"\n\n")
-            && write_whole(self.rt, STDOUT_FILENO, text)
-            && write_whole(
-                self.rt,
-                STDOUT_FILENO,
-                b"Status, by run and by what install puts elsewhere: 0 accepted and written whole; 1 refused, stopped or too long;\n2 bad usage, or input or output that failed.\n",
-            );
-        self.written(whole, End::Accepted)
+    fn help(self, about: About<'_>) -> Result<End, Stop> {
+        let About { usage, help, .. } = about;
+        written(write!(self.rt.stdout(), "{usage}\n\n{help}{STATUSES}"))?;
+        Ok(End::Accepted)
     }
 
-    // Looks at the arguments, of which the program takes from least to most: it goes on, or helps, or says what is wrong.
-    pub fn called_between(
-        self,
-        least: usize,
-        most: usize,
-        missing: &[u8],
-        superfluous: &[u8],
-        usage: &[u8],
-        text: &[u8],
-    ) -> Called {
-        if self.asked_for_help() {
-            return Called::Done(self.help(usage, text));
+    // Reads a table from standard input. A byte after the most that a table has shows that the input is longer.
+    pub fn read_table(self, buffer: &mut [u8; MOST_BYTES]) -> Result<usize, Stop>
+        ensures { IfOk result (λ used. used ≤ MOST_BYTES) }
+    {
+        let mut stdin = self.rt.stdin();
+        let used = read_whole(&mut stdin, buffer).map_err(Stop::Unread)?;
+        if used == MOST_BYTES {
+            let more = read_whole(&mut stdin, &mut [0u8; 1]).map_err(Stop::Unread)?;
+            if 0 < more {
+                return Err(Stop::TooLong);
+            }
         }
-        let count = self.arguments();
-        if count < least {
-            return Called::Done(self.misused(missing, usage));
+        Ok(used)
+    }
+
+    // Writes the first bytes of a buffer to standard output, or all where it has fewer.
+    pub fn write_first(self, count: usize, buffer: &[u8]) -> Result<(), Stop>
+        ensures { IfErr result (λ stop. stop ≡ Stop.Unwritten) }
+    {
+        let bytes = buffer.get(..count).unwrap_or(buffer);
+        written(Stream::Output.write(self.rt, bytes))
+    }
+
+    // Ends a line and writes it.
+    pub fn put(self, stream: Stream, line: Line) -> Result<(), Stop>
+        ensures { IfErr result (λ stop. stop ≡ Stop.Unwritten) }
+    {
+        written(stream.write(self.rt, line.word(b"\n").as_bytes()))
+    }
+
+    // Writes a line with a text to standard output.
+    pub fn println<D: Display + Drop>(self, text: D) -> Result<(), Stop>
+        ensures { IfErr result (λ stop. stop ≡ Stop.Unwritten) }
+    {
+        self.put(Stream::Output, line(text)?)
+    }
+
+    // Writes a line with a text to standard error.
+    pub fn eprintln<D: Display + Drop>(self, text: D) -> Result<(), Stop>
+        ensures { IfErr result (λ stop. stop ≡ Stop.Unwritten) }
+    {
+        self.put(Stream::Error, line(text)?)
+    }
+
+    // Says what keeps the program from its answer, and how it ends.
+    fn say(self, about: About<'_>, stop: Stop) -> End {
+        let About { usage, .. } = about;
+        match stop {
+            Stop::Missing => self.misused(about.missing, usage),
+            Stop::Superfluous => self.misused(about.superfluous, usage),
+            Stop::Wrong => self.misused(about.wrong, usage),
+            Stop::Unread(error) => self.failed(format_args!(
+                "standard input could not be read: {}",
+                reason(error)
+            )),
+            Stop::ScriptUnread(error) => self.script_unread(error, usage),
+            Stop::Unwritten => self.failed(UNWRITTEN),
+            Stop::TooLong => self.refused(about.refusals, Line::empty().word(b"too long")),
+            Stop::Refused(refusal) => self.refused(about.refusals, Line::empty().refused(refusal)),
         }
-        if most < count {
-            return Called::Done(self.misused(superfluous, usage));
+    }
+
+    // Says what is wrong with the call, and how the program is called.
+    fn misused(self, wrong: &str, usage: &str) -> End {
+        self.failed(format_args!("{wrong}; call it as: {usage}"))
+    }
+
+    // Says that a table is refused, and why.
+    fn refused(self, stream: Stream, why: Line) -> End {
+        match self.put(stream, why) {
+            Ok(()) => End::Refused,
+            Err(_) => self.failed(UNWRITTEN),
         }
-        Called::Rightly
     }
 
-    // The same where it takes exactly so many.
-    pub fn called(
-        self,
-        takes: usize,
-        missing: &[u8],
-        superfluous: &[u8],
-        usage: &[u8],
-        text: &[u8],
-    ) -> Called {
-        self.called_between(takes, takes, missing, superfluous, usage, text)
+    // Says on standard error what went wrong.
+    pub fn failed<D: Display + Drop>(self, wrong: D) -> End
+        ensures { result ≡ End.Failed }
+    {
+        let mut line = self.line();
+        let _ = write!(line, "{wrong}");
+        let _ = self.put(Stream::Error, line);
+        End::Failed
     }
-}
 
-// A question mark for a byte that would end the line, or that a terminal would obey.
-fn plain(byte: u8) -> u8 {
-    if (byte < 32) | (byte == 127) {
-        return b'?';
+    // A line that begins with the program's name.
+    fn line(self) -> Line {
+        let name = self.name;
+        name.word(b": ")
     }
-    byte
-}
 
-// Writes a path to standard error, each byte plain.
-fn show_path(rt: &HostRuntime, path: &[u8]) {
-    let mut i = 0;
-    while i < path.len() {
-        write_whole(rt, STDERR_FILENO, &[plain(path[i])]);
-        i += 1;
+    // Says why the script that the argument names could not be read, and how the program is called. In the path a question mark stands for a byte that
+    // would end the line, or that a terminal would obey.
+    fn script_unread(self, error: io::Error, usage: &str) -> End {
+        let mut word = [0u8; LONGEST];
+        let len = self.argument(&mut word);
+        let path = &mut word[..len];
+        for byte in path.iter_mut() {
+            if byte.is_ascii_control() {
+                *byte = b'?';
+            }
+        }
+        let _ = Stream::Error.write(self.rt, self.line().word(b"the script ").as_bytes());
+        let _ = Stream::Error.write(self.rt, path);
+        let why = reason(error);
+        let _ = self.eprintln(format_args!(" could not be read: {why}; call it as: {usage}"));
+        End::Failed
+    }
+
+    // Writes the status where it was asked for: the program's last word.
+    fn end(self, end: End) {
+        let status = match end {
+            End::Accepted => b"0",
+            End::Refused => b"1",
+            End::Failed => b"2",
+        };
+        if let Some(number) = self.status {
+            let _ = writes::write_numbered(self.rt, number, status);
+        }
     }
 }

@@ -1,55 +1,33 @@
 // Why a file could not be read, in words.
-use text::Line;
+use std::io;
+use std::io::ErrorKind;
 
-// The numbers of errors, as Linux has them.
-const ENOENT: i32 = 2;
-
-pub(crate) const EINTR: i32 = 4;
-
+// The numbers, as Linux has them, of errors that have no kind of their own.
 const EIO: i32 = 5;
 
 pub const EBADF: i32 = 9;
 
-const EAGAIN: i32 = 11;
-
 const EACCES: i32 = 13;
-
-const ENOTDIR: i32 = 20;
-
-const EISDIR: i32 = 21;
-
-const ENAMETOOLONG: i32 = 36;
 
 pub const EILSEQ: i32 = 84;
 
-// The line with the reason of an error after its text.
-pub(crate) fn reason(line: Line, error: i32) -> Line {
-    if error == ENOENT {
-        return line.word(b"there is no such file");
+pub(crate) fn reason(error: io::Error) -> &'static str {
+    match error.kind() {
+        ErrorKind::NotFound => "there is no such file",
+        ErrorKind::IsADirectory => "it is a folder",
+        ErrorKind::NotADirectory => "a part of its path is no folder",
+        ErrorKind::InvalidFilename => "its name is too long",
+        ErrorKind::WouldBlock => "it does not wait for its bytes, and not all are there",
+        _ => reason_of_number(error.raw_os_error()),
     }
-    if error == EACCES {
-        return line.word(b"permission is denied");
+}
+
+fn reason_of_number(number: Option<i32>) -> &'static str {
+    match number {
+        Some(EACCES) => "permission is denied",
+        Some(EBADF) => "it is closed",
+        Some(EIO) => "the device failed",
+        Some(EILSEQ) => "its path is no text in UTF-8",
+        _ => "the system refused it",
     }
-    if error == EISDIR {
-        return line.word(b"it is a folder");
-    }
-    if error == ENOTDIR {
-        return line.word(b"a part of its path is no folder");
-    }
-    if error == ENAMETOOLONG {
-        return line.word(b"its name is too long");
-    }
-    if error == EBADF {
-        return line.word(b"it is closed");
-    }
-    if error == EAGAIN {
-        return line.word(b"it does not wait for its bytes, and not all are there");
-    }
-    if error == EIO {
-        return line.word(b"the device failed");
-    }
-    if error == EILSEQ {
-        return line.word(b"its path is no text in UTF-8");
-    }
-    line.word(b"the system refused it")
 }

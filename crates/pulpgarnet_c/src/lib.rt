@@ -1,21 +1,18 @@
 // The archive for C: each export calls the function of that name in pulpgarnet, and promises the same (include/pulpgarnet.h).
 #![tactic(auto)]
 
-ghost use Rattle.std.specs.Prelude.{◌≡◌, [], length};
+ghost use Rattle.std.specs.Prelude.{◌≡◌, length};
 ghost use Rattle.tables.specs.Calls.{check_of};
-ghost use Rattle.questions.specs.Said.{said_value, said_report};
 ghost use Rattle.questions.specs.Calls.{evaluate_of, report_of};
 ghost use Rattle.questions.specs.Claimed.{claimed_evaluate, claimed_report};
 ghost use Rattle.reading.specs.Held.{claim};
 ghost use Rattle.rules.specs.Step.{step_with};
 ghost use Rattle.rewriting.specs.Calls.{step_of, step_bytes};
-ghost use Rattle.rewriting.specs.Script.{run_of, script_run};
+ghost use Rattle.rewriting.specs.Script.{script_run};
 ghost use Rattle.rewriting.specs.Follow.{follow_run, places_after};
 ghost use Rattle.translation.specs.declared.Mode.TheVariants.{Anew, Once};
-ghost use Rattle.rm3.specs.Said.{said_translate};
 ghost use Rattle.rm3.specs.Calls.{translate_of, translate_bytes, depth_of};
 ghost use Rattle.catalogue.specs.Calls.{catalogue_of, catalogue_bytes};
-ghost use Rattle.words.specs.Said.{said_placed};
 ghost use Rattle.words.specs.Calls.{words_of, words_places, totals_of, totals_places};
 ghost use Rattle.pulpgarnet.specs.Replies.{checked_reply, valued_reply, reported_reply, placed_reply, stepped_reply, ran_reply, written_reply, deep_reply};
 

@@ -6,7 +6,7 @@ use Rattle.majority.specs.declared.Record.{Record}
 use Rattle.majority.specs.declared.Counts.{Counts}
 use Rattle.tables.specs.Bytes.{records_of}
 use Rattle.tables.specs.Sound.{Sound, table_in, Fresh}
-use Rattle.tables.proofs.Sound.{sound_accepted, read_record}
+use Rattle.tables.proofs.Sound.{sound_formed, sound_limits, read_record}
 use Rattle.questions.specs.Levelled.{gate_level, levelled_by, levelled}
 use Rattle.questions.specs.inner.Worths.{Holds}
 use Rattle.questions.proofs.Worths.{holds_more, gate_level_lem, levels_begin}
@@ -36,9 +36,9 @@ module _ {xs : List ℕ} {c : Counts} (sound : Sound xs c) where
   -- one gate more
   more : (i : ℕ) {ls : List ℕ} → c.inputs ≤ i → i < nodes → Holds levels table i ls → Holds levels table (suc i) (set ls (suc i) (gate_level ls (record_at (records_of xs) i)))
   more i {ls} p q holds =
-      let limits = (sound_accepted sound).limits in
+      let limits = sound_limits sound in
       let up : i + 1 ≡ suc i = omega arith in
-      rw up at (holds_more levels (gate_level ls (record_at (records_of xs) i)) (omega arith) (ap (gate_level ls) (read_record sound i (omega arith)) ∙ gate_level_lem sound i p q holds) holds)
+      rw up at (holds_more levels (gate_level ls (record_at (records_of xs) i)) (omega arith) (ap (gate_level ls) (read_record sound i (omega arith)) ∙ gate_level_lem (sound_formed sound) (sound_limits sound) i p q holds) holds)
 
   -- k gates more
   levels_set : (k i : ℕ) {ls : List ℕ} → c.inputs ≤ i → i + k ≤ nodes → Holds levels table i ls → Holds levels table (i + k) (levelled_by (records_of xs) i k ls)
@@ -51,8 +51,8 @@ module _ {xs : List ℕ} {c : Counts} (sound : Sound xs c) where
   -- the levels of the nodes up to b, worked out in an array of zeros
   pub levels_upto : {ls : List ℕ} → Fresh 0 ls → (b : ℕ) → b ≤ nodes → Holds levels table (c.inputs + (b - c.inputs)) (levelled (records_of xs) c.inputs b ls)
   levels_upto fresh b h =
-      let limits = (sound_accepted sound).limits in
-      rw (le-ltb 1056 b (omega arith)) (levels_set (b - c.inputs) c.inputs (omega arith) (omega arith) (levels_begin sound fresh))
+      let limits = sound_limits sound in
+      rw (le-ltb 1056 b (omega arith)) (levels_set (b - c.inputs) c.inputs (omega arith) (omega arith) (levels_begin (sound_formed sound) fresh))
 
   -- and those of all nodes
   pub levels_all : {ls : List ℕ} → Fresh 0 ls → Holds levels table nodes (levelled (records_of xs) c.inputs nodes ls)

@@ -1,4 +1,3 @@
 mod Worths  -- the list holds what the nodes so far are worth
 pub mod Levelled  -- setting levels one after another, and that the array then holds them
-pub mod SaidOnce  -- the questions' replies are one-to-one
 pub mod Claims  -- claimed counts that are those found give the plain reply

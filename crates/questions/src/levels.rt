@@ -1,20 +1,16 @@
 // The levels of a table's nodes, and its depth.
-ghost use Rattle.std.specs.Prelude.{◌≡◌, ◌+◌};
+ghost use Rattle.std.specs.Prelude.{◌≡◌, ◌+◌, Ok};
 ghost use Rattle.majority.specs.Edge.{node_of};
 ghost use Rattle.majority.specs.Level.{levels as levels_of, depth as depth_of};
-ghost use Rattle.refusals.specs.Reply.{accepted, and_then};
-ghost use Rattle.tables.specs.Said.{said_check};
 ghost use Rattle.tables.specs.Bytes.{records_of};
-ghost use Rattle.tables.specs.Sound.{Sound, SoundAfter, table_in};
-ghost use Rattle.questions.specs.Said.{said_report};
 ghost use Rattle.questions.specs.Calls.{size_of};
 ghost use Rattle.questions.specs.Levelled.{level_at, gate_level, levelled};
 ghost use Rattle.questions.specs.inner.Worths.{Holds};
 
-use crate::{Reported, Size};
+use crate::Size;
 use majority::{Counts, Record, higher, node};
 use std::num::wrapping_add_u16;
-use tables::{Checked, record_at};
+use tables::{SoundTable, record_at};
 
 fn wide(level: u16) -> usize
     ensures { result ≡ level }
@@ -54,51 +50,34 @@ pub fn set_levels(levels: &mut [u16; 1057], s: &[u8], first: usize, n: usize)
     if 1056 < n {
         return;
     }
-    let mut i = first;
-    while i < n {
+    for i in first..n {
         levels[i + 1] = gate_level(levels, record_at(s, i));
-        i += 1;
     }
 }
 
 // The highest level of the nodes that outputs name, the levels of all nodes being set.
-#[tactic(auto, using(tables::proofs::Sound::read_record, crate::proofs::Worths::output_level_lem, majority::proofs::Levels::highest_more), unfolding(majority::specs::Level::highest, majority::specs::Level::depth))]
-fn depth(levels: &[u16; 1057], s: &[u8], counts: Counts) -> u16
-    requires { Sound s.now counts × Holds levels_of (table_in s.now counts) (counts.inputs + counts.gates) levels.now }
-    ensures { result ≡ depth_of counts.inputs counts.gates counts.outputs (table_in s.now counts) }
+#[tactic(auto, using(crate::proofs::Worths::output_level_lem, majority::proofs::Levels::highest_more), unfolding(majority::specs::Level::highest, majority::specs::Level::depth))]
+fn depth(levels: &[u16; 1057], table: &SoundTable<'_>) -> u16
+    requires { Holds levels_of table.now.records (table.now.counts.inputs + table.now.counts.gates) levels.now }
+    ensures { result ≡ depth_of table.now.counts.inputs table.now.counts.gates table.now.counts.outputs table.now.records }
 {
-    let nodes = counts.inputs + counts.gates;
     let mut highest: u16 = 0;
-    let mut j = 0;
-    while j < counts.outputs {
-        highest = higher(highest, edge_level(levels, record_at(s, nodes + j).e1));
-        j += 1;
+    for j in 0..table.counts().outputs {
+        highest = higher(highest, edge_level(levels, table.output(j)));
     }
     highest
 }
 
 // The size and depth of an accepted table.
 #[tactic(auto, using(crate::proofs::Levelled::levels_all, tables::proofs::Sound::fresh))]
-fn size(s: &[u8], counts: Counts) -> Size
-    requires { Sound s.now counts }
-    ensures { result ≡ size_of (table_in s.now counts) counts }
+pub(crate) fn size(table: &SoundTable<'_>) -> Size
+    ensures { result ≡ size_of table.now.records table.now.counts }
 {
+    let Counts { inputs, gates, .. } = table.counts();
     let mut levels = [0u16; 1057];
-    set_levels(&mut levels, s, counts.inputs, counts.inputs + counts.gates);
+    set_levels(&mut levels, table.bytes, inputs, inputs + gates);
     Size {
-        gates: counts.gates,
-        depth: wide(depth(&levels, s, counts)),
-    }
-}
-
-// The size and depth of a table that was checked.
-#[tactic(auto, using(tables::proofs::AfterCheck::then_accepted, tables::proofs::AfterCheck::then_refused))]
-pub(crate) fn size_after(s: &[u8], checked: Checked) -> Reported
-    requires { SoundAfter s.now (said_check checked) }
-    ensures { said_report result ≡ and_then (said_check checked) (λ c. accepted (size_of (table_in s.now c) c)) }
-{
-    match checked {
-        Checked::Accepted(counts) => Reported::Whole(size(s, counts)),
-        Checked::Refused(refusal) => Reported::Refused(refusal),
+        gates,
+        depth: wide(depth(&levels, table)),
     }
 }

@@ -1,24 +1,23 @@
 -- What a reading holds (SPEC 7): records, and their three counts as one claim.
-use Rattle.std.specs.Prelude.{ℕ, List, take}
-use Rattle.refusals.specs.Reply.{Reply, accepted, refused}
+use Rattle.std.specs.Prelude.{ℕ, List, take, Result, Ok, Err}
 use Rattle.majority.specs.Check.{counts}
 use Rattle.majority.specs.declared.Counts.{Counts}
 use Rattle.tables.specs.Calls.{check_of}
-use Rattle.reading.specs.declared.Found.{Found}
-use Rattle.reading.specs.declared.Reading.{Reading}
+use Rattle.refusals.specs.declared.Refusal.{Refusal}
 
 -- the claim of three counts
 abbrev pub claim : ℕ → ℕ → ℕ → Counts
 claim inputs gates outputs = counts inputs gates outputs
 
--- the claim of a reading
-abbrev pub claimed : Reading → Counts
-claimed r = claim r.inputs r.gates r.outputs
+-- a used length and counts
+pub record Found : Type 0 where
+  pub used : ℕ
+  pub counts : Counts
 
--- the used length and counts that a check gives, all zero where it refuses
-abbrev pub found : ℕ → Reply Counts → Found
-found used (accepted c) = record { used = used; inputs = c.inputs; gates = c.gates; outputs = c.outputs }
-found used (refused w) = record { used = 0; inputs = 0; gates = 0; outputs = 0 }
+-- those that a check gives, all zero where it refuses
+abbrev pub found : ℕ → Result Counts Refusal → Found
+found used (Ok c) = record { used = used; counts = c }
+found used (Err w) = record { used = 0; counts = claim 0 0 0 }
 
 -- those of the first used bytes of xs
 unfoldable pub found_in : List ℕ → ℕ → Found
@@ -29,4 +28,4 @@ abbrev pub part_in : List ℕ → ℕ → List ℕ
 part_in xs used = take (found_in xs used).used xs
 
 abbrev pub counts_in : List ℕ → ℕ → Counts
-counts_in xs used = claim (found_in xs used).inputs (found_in xs used).gates (found_in xs used).outputs
+counts_in xs used = (found_in xs used).counts

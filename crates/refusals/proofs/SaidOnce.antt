@@ -6,7 +6,8 @@ use lib.ListN.{get_or}
 use Rattle.refusals.specs.declared.Refusal.{Refusal}
 use Rattle.refusals.specs.declared.Refusal.TheVariants.{Length, Kind, Count, NotZero, Edge, Assignment, Rule, Field, Form, Gates, Room, Script, Inputs, Function}
 use Rattle.refusals.specs.Why.{Why, why_of}
-use Rattle.refusals.specs.Reply.{Reply, accepted, refused}
+use Rattle.refusals.specs.Reply.{Reply, accepted, refused, said, said_end}
+use Rattle.std.specs.Prelude.{Option, Some, None, option_map, Result, Ok, Err}
 
 -- the refusal of these numbers; where none has them, as 13, 14 and 16, any
 pub refusal_of : Why → Refusal
@@ -37,11 +38,22 @@ refusal_back Function = refl
 pub refusal_once : (a b : Refusal) → why_of a ≡ why_of b → a ≡ b
 refusal_once a b e = sym (refusal_back a) ∙ ap refusal_of e ∙ refusal_back b
 
--- a reply is told apart from another where what it makes of an accepted value and of a refusal can be undone
-module _ {A E : Type 0} (yes : A → E) (no : Refusal → E) (said : E → Reply A) where
-  unfoldable pub back : Reply A → E
-  back (accepted x) = yes x
-  back (refused w) = no (refusal_of w)
+-- a reply is told apart from another: a promise has one reply
+pub reply_once : {A : Type 0} (a b : Result A Refusal) → said a ≡ said b → a ≡ b
+reply_once {A = A} a b e = sym (undone a) ∙ ap back e ∙ undone b
+  where
+    back : Reply A → Result A Refusal
+    back (accepted x) = Ok x
+    back (refused w) = Err (refusal_of w)
 
-  pub once : ((e : E) → back (said e) ≡ e) → (a b : E) → said a ≡ said b → a ≡ b
-  once undone a b e = sym (undone a) ∙ ap back e ∙ undone b
+    undone : (r : Result A Refusal) → back (said r) ≡ r
+    undone (Ok x) = refl
+    undone (Err r) = ap Err (refusal_back r)
+
+-- and so is the end of a script
+pub end_once : (a b : Option Refusal) → said_end a ≡ said_end b → a ≡ b
+end_once a b e = sym (undone a) ∙ ap (option_map refusal_of) e ∙ undone b
+  where
+    undone : (r : Option Refusal) → option_map refusal_of (said_end r) ≡ r
+    undone None = refl
+    undone (Some r) = ap Some (refusal_back r)

@@ -9,18 +9,6 @@ pub record Why : Type 0 where
   pub place : ℕ
   pub edge : ℕ
 
--- refusal k, of no record
-abbrev pub why : ℕ → Why
-why k = record { number = k; place = 0; edge = 0 }
-
--- refusal k, of record i
-abbrev pub why_at : ℕ → ℕ → Why
-why_at k i = record { number = k; place = i; edge = 0 }
-
--- refusal 5, of edge e of record i; edges are counted from 1
-abbrev pub why_edge : ℕ → ℕ → Why
-why_edge i e = record { number = 5; place = i; edge = e }
-
 abbrev pub refusal_number : Refusal → ℕ
 refusal_number Length = 1
 refusal_number (Kind i) = 2

@@ -1,7 +1,7 @@
 -- Closing up the gates, record by record: what stays goes to its new place renumbered, and what is behind stands as it was.
 use Rattle.std.proofs.Common.{◌≡◌, ℕ, suc, ◌+◌, ◌*◌, ◌/◌, ◌<◌, ◌≤◌, Bool, true, false, List, length, get_or, set, sym, refl, ap, ◌∙◌, arith}
 use native.Mathlib.Decide.{ℕ_discrete}
-use Rattle.majority.specs.Table.{record_at, Below, WellFormed}
+use Rattle.majority.specs.Table.{record_at, Below, WellFormed, WithinLimits}
 use Rattle.majority.specs.Edit.{edges}
 use Rattle.rules.specs.Sweep.{reached, stays, renumber, sweep}
 use Rattle.majority.specs.declared.Record.{Record}
@@ -18,6 +18,13 @@ use Rattle.rewriting.specs.inner.Marks.{Marked}
 use Rattle.rewriting.specs.inner.ClosedUp.{new_number, Numbered, renumber_by, Closed, ClosedUp}
 use Rattle.rewriting.proofs.SameRest.{same_record, same_later}
 use Rattle.rewriting.proofs.NewNumbers.{numbered_more, numbered_inputs, number_in, number_out, number_lower, number_input, renumbered_edges, swept_at}
+
+-- a gate stays where it is marked
+pub mark_stays : {n m o : ℕ} {t : List Record} → WellFormed n m o t → WithinLimits n m o → {marks : List Bool} → Marked (reached t) marks → (i : ℕ) → n ≤ i → i < n + m
+    → get_or marks (i + 1) false ≡ stays t (suc i)
+mark_stays formed limits marked i p q =
+    let e : i + 1 ≡ suc i = omega arith in
+    rw e (marked.marked (suc i) (omega arith) (omega (arith, limits.inputs, limits.gates)) ∙ sym (gate_stays formed i p q))
 
 module _ {xs : List ℕ} {c : Counts} (sound : Sound xs c) where
   open c use {inputs as n, gates as m, outputs as o}
@@ -70,13 +77,6 @@ module _ {xs : List ℕ} {c : Counts} (sound : Sound xs c) where
   pub close_start : {ns : List ℕ} → Numbered (λ k. k) n ns → ClosedUp xs c n n xs ns
   close_start numbers = record { place = sym (number_input formed n (omega arith)); numbers = numbered_inputs formed numbers; bytes = closed_start }
 
-  -- a gate stays where it is marked
-  pub mark_stays : {marks : List Bool} → Marked (reached t) marks → (i : ℕ) → n ≤ i → i < n + m → get_or marks (i + 1) false ≡ stays t (suc i)
-  mark_stays marked i p q =
-      let limits = (sound_accepted sound).limits in
-      let e : i + 1 ≡ suc i = omega arith in
-      rw e (marked.marked (suc i) (omega arith) (omega arith) ∙ sym (gate_stays formed i p q))
-
   -- one gate further
   module _ {ys ns : List ℕ} (i to : ℕ) (p : n ≤ i) (q : i < n + m) (is : ClosedUp xs c i to ys ns) where
     pub close_below : (r : Record) → r ≡ record_at (table_of ys (length ys / 8)) i → Below (suc i) r
@@ -90,7 +90,7 @@ module _ {xs : List ℕ} {c : Counts} (sound : Sound xs c) where
           → ClosedUp xs c (i + 1) (to + 1) (put_record ys to r') (set ns (i + 1) (to + 1))
       close_keep on r r' e e' =
           let limits = (sound_accepted sound).limits in
-          let s = sym (mark_stays marked i p q) ∙ on in
+          let s = sym (mark_stays formed limits marked i p q) ∙ on in
           let next : to + 1 ≡ new_number t (i + 1) = omega (arith, is.place, number_in t i s) in
           let low = close_below r e in
           let whole : r' ≡ edges (renumber (stays t)) (record_at t i) =
@@ -105,7 +105,7 @@ module _ {xs : List ℕ} {c : Counts} (sound : Sound xs c) where
       pub close_drop : get_or marks (i + 1) false ≡ false → ClosedUp xs c (i + 1) to ys (set ns (i + 1) to)
       close_drop off =
           let limits = (sound_accepted sound).limits in
-          let s = sym (mark_stays marked i p q) ∙ off in
+          let s = sym (mark_stays formed limits marked i p q) ∙ off in
           let next : to ≡ new_number t (i + 1) = omega (arith, is.place, number_out t i s) in
           record {
             place = next;

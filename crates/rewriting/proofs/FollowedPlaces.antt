@@ -1,19 +1,15 @@
 -- The places of followed gates after a step, by its rule; each then holds 0 or an edge to a gate of the table that the step leaves.
 use Rattle.std.proofs.Common.{◌≡◌, ℕ, suc, ◌+◌, ◌*◌, ◌/◌, ◌<◌, ◌≤◌, Bool, true, false, ltb, List, [], length, get_or, sym, refl, ap, ◌∙◌, arith}
-use Rattle.refusals.specs.Why.{Why, why}
-use Rattle.refusals.specs.Reply.{Reply, accepted, refused, and_then}
-use Rattle.std.specs.Prelude.{if◌then◌else◌}
+use Rattle.std.specs.Prelude.{if◌then◌else◌, Result, Ok, Err}
 use Rattle.majority.specs.Edge.{node_of}
 use Rattle.majority.specs.Check.{count}
 use Rattle.majority.specs.declared.Record.{Record}
 use Rattle.majority.specs.declared.Counts.{Counts}
 use Rattle.rules.specs.Rules.{plain}
 use Rattle.rules.specs.Kept.{moves_by}
-use Rattle.rules.specs.Step.{rule_of, said_rule, is_sweep, is_inversion, inserted}
+use Rattle.rules.specs.Step.{rule_of, is_sweep, is_inversion, inserted}
 use Rattle.rules.specs.Followed.{followed_edge}
 use Rattle.rules.specs.declared.Rule.{Rule}
-use Rattle.rules.specs.declared.Named.{Named}
-use Rattle.rules.specs.declared.Named.TheVariants.{Unknown}
 use Rattle.rules.specs.declared.Step.{Step}
 use Rattle.rules.proofs.AcceptedStep.{Taken, ruled, gate_field}
 use Rattle.rules.proofs.MovedEdge.{moved_cases, followed_edit, followed_sweep}
@@ -22,18 +18,20 @@ use Rattle.rules.proofs.Steps.{step_nodes}
 use Rattle.tables.specs.Sound.{Sound, table_in}
 use Rattle.tables.proofs.Sound.{sound_accepted}
 use Rattle.rewriting.specs.Calls.{step_of}
-use Rattle.rewriting.specs.Script.{counts_at}
+use Rattle.rewriting.specs.Script.{counts_at, counts_after}
 use Rattle.rewriting.specs.Through.{through_steps}
 use Rattle.rewriting.specs.Follow.{first_places, followed_place, followed_places}
 use Rattle.tables.specs.Places.{in_places}
-use Rattle.rewriting.specs.inner.Applied.{used_by, step_in}
+use Rattle.rewriting.specs.inner.Applied.{used_by, change_of, step_in}
 use Rattle.rewriting.specs.inner.ClosedUp.{Numbered}
+use Rattle.rewriting.specs.inner.Stepped.{Stepped}
 use Rattle.rewriting.specs.inner.Places.{Placed, Places, past_step, edited_edge, number_left, left_by}
-use Rattle.rewriting.proofs.CheckedStep.{unknown_step}
-use Rattle.rewriting.proofs.Replies.{table_same}
+use Rattle.rewriting.proofs.Replies.{table_same, unknown_replies, unknown_leaves}
 use Rattle.rewriting.proofs.ThroughSteps.{through_off}
 use Rattle.tables.proofs.InPlaces.{places_none, places_length, place_changed, places_same}
 use Rattle.rewriting.proofs.NumbersLeft.{left_edge}
+use Rattle.refusals.specs.declared.Refusal.{Refusal}
+use Rattle.refusals.specs.Reply.{◌>>=◌}
 
 -- no gate is inserted, and none inverted
 pub edited_none : (g e : ℕ) → edited_edge g 0 false e ≡ e
@@ -57,34 +55,34 @@ places_first n m ps room = record {
 module _ (xs : List ℕ) (c : Counts) (s : Step) (k : ℕ) (ps : List ℕ) where
   open c use {inputs as n, gates as m, outputs as o}
 
-  pub past_taken : (next : ℕ) → step_of xs (used_by c) s ≡ accepted next → past_step xs c s k ps ≡ followed_places n k (table_in xs c) s ps
+  pub past_taken : (next : ℕ) → step_of xs (used_by c) s ≡ Ok next → past_step xs c s k ps ≡ followed_places n k (table_in xs c) s ps
   unfolding through_steps
   past_taken next e = let all : used_by c / 8 ≡ n + m + o = omega arith in rw (e, all)
 
-  pub past_refused : (w : Why) → step_of xs (used_by c) s ≡ refused w → past_step xs c s k ps ≡ ps
+  pub past_refused : (w : Refusal) → step_of xs (used_by c) s ≡ Err w → past_step xs c s k ps ≡ ps
   past_refused w e = through_off (followed_places n k) xs (used_by c) s [] w ps e
-
-pub past_length : (xs : List ℕ) (c : Counts) (s : Step) (k : ℕ) (ps : List ℕ) → length (past_step xs c s k ps) ≡ length ps
-past_length xs c s k ps = go (step_of xs (used_by c) s) refl
-  where
-    go : (r : Reply ℕ) → step_of xs (used_by c) s ≡ r → length (past_step xs c s k ps) ≡ length ps
-    go (accepted next) e = ap length (past_taken xs c s k ps next e) ∙ places_length _ (suc c.inputs) k ps
-    go (refused w) e = ap length (past_refused xs c s k ps w e)
 
 -- where no gate is followed
 pub past_none : (xs : List ℕ) (c : Counts) (s : Step) (ps : List ℕ) → past_step xs c s 0 ps ≡ ps
 past_none xs c s ps = go (step_of xs (used_by c) s) refl
   where
-    go : (r : Reply ℕ) → step_of xs (used_by c) s ≡ r → past_step xs c s 0 ps ≡ ps
-    go (accepted next) e = past_taken xs c s 0 ps next e ∙ places_none _ (suc c.inputs) ps
-    go (refused w) e = past_refused xs c s 0 ps w e
+    go : (r : Result ℕ Refusal) → step_of xs (used_by c) s ≡ r → past_step xs c s 0 ps ≡ ps
+    go (Ok next) e = past_taken xs c s 0 ps next e ∙ places_none _ (suc c.inputs) ps
+    go (Err w) e = past_refused xs c s 0 ps w e
 
 -- where the step has no rule
-pub past_unknown : {xs : List ℕ} {c : Counts} → Sound xs c → (s : Step) (r : Named) → said_rule r ≡ rule_of s.rule → r ≡ Unknown → (k : ℕ) (ps : List ℕ) → past_step xs c s k ps ≡ ps
-unfolding step_of
-past_unknown {xs} {c} sound s r said is k ps = past_refused xs c s k ps (why 7) (rw (table_same sound s, unknown_step xs c s r said is))
+module _ {xs : List ℕ} {c : Counts} (sound : Sound xs c) (s : Step) (w : Refusal) (is : rule_of s.rule ≡ Err w) where
+  no_change : change_of s ≡ Err w
+  unfolding change_of
+  no_change = rw is
 
-module _ {xs : List ℕ} {c : Counts} (sound : Sound xs c) (s : Step) (next : ℕ) (e : step_of xs (used_by c) s ≡ accepted next) where
+  pub no_rule : (r : Result ℕ Refusal) → r ≡ Err w → Stepped xs c s r xs c
+  no_rule r e = record { reply = e ∙ sym (unknown_replies sound s no_change); bytes = sym (unknown_leaves sound s no_change); counts = rw e }
+
+  pub no_rule_past : (k : ℕ) (ps : List ℕ) → past_step xs c s k ps ≡ ps
+  no_rule_past k ps = past_refused xs c s k ps w (unknown_replies sound s no_change)
+
+module _ {xs : List ℕ} {c : Counts} (sound : Sound xs c) (s : Step) (next : ℕ) (e : step_of xs (used_by c) s ≡ Ok next) where
   open c use {inputs as n, gates as m, outputs as o}
 
   abbrev t : List Record
@@ -93,16 +91,16 @@ module _ {xs : List ℕ} {c : Counts} (sound : Sound xs c) (s : Step) (next : �
   -- what the step made
   record Makes : Type 0 where
     table : List Record
-    is : step_in xs c s ≡ accepted table
+    is : step_in xs c s ≡ Ok table
     long : 8 * length table ≡ next
 
   makes : Makes
   unfolding step_of
   makes = go (step_in xs c s) refl (sym (rw (table_same sound s)) ∙ e)
     where
-      go : (r : Reply (List Record)) → step_in xs c s ≡ r → and_then r (λ t. accepted (8 * length t)) ≡ accepted next → Makes
-      go (accepted t) is e = record { table = t; is = is; long = cc }
-      go (refused w) is e = let z : ◌≡◌ {A = ℕ} 0 1 = cc in absurd (omega arith)
+      go : (r : Result (List Record) Refusal) → step_in xs c s ≡ r → ◌>>=◌ r (λ t. Ok (8 * length t)) ≡ Ok next → Makes
+      go (Ok t) is e = record { table = t; is = is; long = cc }
+      go (Err w) is e = let z : ◌≡◌ {A = ℕ} 0 1 = cc in absurd (omega arith)
 
   -- each place then holds what it must
   moved_placed : (x : ℕ) → Placed n m x → Placed n (counts_at c next).gates (followed_edge n t s x)
@@ -126,11 +124,11 @@ module _ {xs : List ℕ} {c : Counts} (sound : Sound xs c) (s : Step) (next : �
   }
 
   -- of a known rule
-  module _ (rule : Rule) (known : rule_of s.rule ≡ accepted rule) where
+  module _ (rule : Rule) (known : rule_of s.rule ≡ Ok rule) where
     taken : Taken (length xs) n m t rule s.gate s.a s.b makes.table
     taken =
         let by = ruled (length xs) n m t s makes.table makes.is in
-        let same : accepted by.rule ≡ accepted rule = sym by.known ∙ known in
+        let same : Ok by.rule ≡ Ok rule = sym by.known ∙ known in
         let one : by.rule ≡ rule = cc in
         rw one at by.taken
 
@@ -144,8 +142,23 @@ module _ {xs : List ℕ} {c : Counts} (sound : Sound xs c) (s : Step) (next : �
         places_same _ _ 0 (suc n) k ps (λ j h l. sym (followed_edit n t s rule known (get_or ps j 0) other some))
 
   -- and of sweep
-  pub swept_places : (rule : Rule) → rule_of s.rule ≡ accepted rule → is_sweep rule ≡ true → {ns : List ℕ} → Numbered (number_left t) (n + m) ns → (k : ℕ) (ps : List ℕ) → Places n m k ps
+  pub swept_places : (rule : Rule) → rule_of s.rule ≡ Ok rule → is_sweep rule ≡ true → {ns : List ℕ} → Numbered (number_left t) (n + m) ns → (k : ℕ) (ps : List ℕ) → Places n m k ps
       → in_places (λ g x. left_by ns x) 0 k ps ≡ followed_places n k t s ps
   swept_places rule known is numbers k ps was =
       places_same _ _ 0 (suc n) k ps
       (λ j h l. left_edge (sound_accepted sound).formed numbers (get_or ps j 0) (was.each j h) ∙ sym (followed_sweep n t s rule known (get_or ps j 0) is))
+
+-- after a step, taken or refused, the places hold what they must
+pub places_stepped : {xs ys : List ℕ} {c d : Counts} {s : Step} {r : Result ℕ Refusal} {k : ℕ} {ps qs : List ℕ} → Sound xs c → Stepped xs c s r ys d → Places c.inputs c.gates k ps
+    → qs ≡ past_step xs c s k ps → Places d.inputs d.gates k qs
+places_stepped {xs} {ys} {c} {d} {s} {r} {k} {ps} {qs} sound done was past = go r refl
+  where
+    go : (u : Result ℕ Refusal) → r ≡ u → Places d.inputs d.gates k qs
+    go (Ok next) is =
+        let e : step_of xs (used_by c) s ≡ Ok next = sym done.reply ∙ is in
+        let counts : d ≡ counts_at c next = done.counts ∙ ap (counts_after c) is in
+        rw (past ∙ past_taken xs c s k ps next e, counts) (places_next sound s next e was)
+    go (Err w) is =
+        let e : step_of xs (used_by c) s ≡ Err w = sym done.reply ∙ is in
+        let counts : d ≡ c = done.counts ∙ ap (counts_after c) is in
+        rw (past ∙ past_refused xs c s k ps w e, counts) was

@@ -1,18 +1,12 @@
 -- The marks that are handed down, record by record from the last, are those of the reached nodes.
-use Rattle.std.proofs.Common.{◌≡◌, ℕ, zero, suc, ◌+◌, ◌-◌, ◌/◌, ◌<◌, ◌≤◌, Bool, true, false, ◌||◌, eqb, List, [], ◌∷◌, length, get_or, set, sym, refl, ◌∙◌, subst, arith, length-set, drop_of_length-le, drop-cons, get_or-set_other, get_or-set_same}
+use Rattle.std.proofs.Common.{◌≡◌, ℕ, zero, suc, ◌+◌, ◌<◌, ◌≤◌, Bool, true, false, ◌||◌, eqb, List, [], ◌∷◌, length, get_or, set, sym, refl, ap, ◌∙◌, subst, arith, length-set, drop_of_length-le, drop-cons, get_or-set_other, get_or-set_same}
 use native.Mathlib.Decide.{ℕ_discrete}
 use Rattle.std.specs.Prelude.{if◌then◌else◌}
 use Rattle.majority.specs.Edge.{node_of}
 use Rattle.majority.specs.Table.{blank, record_at, Below, WellFormed}
 use Rattle.rules.specs.Sweep.{member, reached}
 use Rattle.majority.specs.declared.Record.{Record}
-use Rattle.majority.specs.declared.Counts.{Counts}
-use Rattle.majority.proofs.Formed.{below_more, reads_nodes}
 use Rattle.rules.proofs.Reached.{member_here, member_other}
-use Rattle.tables.specs.Bytes.{table_of}
-use Rattle.tables.specs.Sound.{Sound, table_in, Fresh}
-use Rattle.tables.proofs.Sound.{sound_accepted, sound_record}
-use Rattle.editing.proofs.Loops.{read}
 use Rattle.rewriting.specs.inner.Marks.{reached_by, Marked, mark_names}
 
 -- three nodes, in either order
@@ -44,10 +38,6 @@ module _ {ks : List ℕ} {marks : List Bool} (is : Marked ks marks) where
       go k p q (yes e) = rw e (get_or-set_same marks x true false (omega (arith, is.room)) ∙ sym (member_here x ks))
       go k p q (no e) = get_or-set_other marks x k true false e ∙ is.marked k p q ∙ sym (member_other k x ks e)
 
-  -- the constant's mark is not read
-  marked_constant : Marked (0 ∷ ks) marks
-  marked_constant = record { room = is.room; marked = λ k p q. is.marked k p q ∙ sym (member_other k 0 ks (λ e. omega arith)) }
-
 -- the three nodes that a record names
 marked_names : {ks : List ℕ} {marks : List Bool} (r : Record) → Below 1057 r → Marked ks marks → Marked (node_of r.e1 ∷ node_of r.e2 ∷ node_of r.e3 ∷ ks) (mark_names marks r)
 marked_names {ks} r low is =
@@ -75,53 +65,56 @@ module _ {n m o : ℕ} {t : List Record} (formed : WellFormed n m o t) where
   reached_all zero h = refl
   reached_all (suc i) h = sym (reached_input i (omega arith)) ∙ reached_all i (omega arith)
 
-module _ {xs : List ℕ} {c : Counts} (sound : Sound xs c) where
-  open c use {inputs as n, gates as m, outputs as o}
-
-  abbrev t : List Record
-  t = table_in xs c
-
-  formed : WellFormed n m o t
-  formed = (sound_accepted sound).formed
-
-  -- the record that the code reads
-  sound_read : (i : ℕ) (r : Record) → i < n + m + o → r ≡ record_at (table_of xs (length xs / 8)) i → r ≡ record_at t i
-  sound_read i r h e = e ∙ read xs i (omega (arith, sound.fits)) ∙ sym (sound_record sound i h)
-
-  pub read_below : (i : ℕ) (r : Record) → i < n + m + o → r ≡ record_at (table_of xs (length xs / 8)) i → Below 1057 r
-  read_below i r h e =
-      let limits = (sound_accepted sound).limits in
-      rw (sound_read i r h e) (below_more _ _ _ (omega arith) (reads_nodes formed i (omega (arith, formed.whole))))
-
   -- before the last record nothing is reached
-  pub mark_start : {marks : List Bool} → Fresh false marks → Marked (reached_by t (n + m + o)) marks
+  reached_none : reached_by t (n + m + o) ≡ []
   unfolding reached_by
-  mark_start {marks} fresh =
-      rw (drop_of_length-le t {i = n + m + o} (omega (arith, formed.whole)))
-      (record { room = fresh.room; marked = λ k p q. fresh.all k ∙ sym (member_nothing k) })
+  reached_none = rw (drop_of_length-le t {i = n + m + o} (omega (arith, formed.whole)))
 
-  -- one record further down
-  module _ {marks : List Bool} (i : ℕ) (r : Record) (is : Marked (reached_by t i) marks) (reads : r ≡ record_at (table_of xs (length xs / 8)) (i - 1)) where
-    pub mark_output : n + m < i → i ≤ n + m + o → Marked (reached_by t (i - 1)) (set marks (node_of r.e1) true)
-    mark_output p q =
-        let e : suc (i - 1) ≡ i = omega arith in
-        let low = read_below (i - 1) r (omega arith) reads in
-        rw (reached_output formed (i - 1) (omega arith) (omega arith), e, ← sound_read (i - 1) r (omega arith) reads)
-        (marked_more (marked_constant (marked_constant is)) (node_of r.e1) low.first)
+-- the outputs of t so far are marked: a node is marked, or an output from output j on reaches it
+pub record Marking (t : List Record) (first j : ℕ) (marks : List Bool) : Type 0 where
+  pub room : length marks ≡ 1057
+  pub marked : (k : ℕ) → 1 ≤ k → k < 1057 → (get_or marks k false || member k (reached_by t (first + j))) ≡ member k (reached_by t first)
 
-    module _ (p : n < i) (q : i ≤ n + m) where
-      next : reached_by t (i - 1) ≡ (if get_or marks i false then node_of r.e1 ∷ node_of r.e2 ∷ node_of r.e3 ∷ reached_by t i else reached_by t i)
-      next =
-          let limits = (sound_accepted sound).limits in
-          let e : suc (i - 1) ≡ i = omega arith in
-          rw (reached_gate formed (i - 1) (omega arith) (omega arith), e, ← sound_read (i - 1) r (omega arith) reads, is.marked i (omega arith) (omega arith))
+or_none : (b : Bool) → (b || false) ≡ b
+or_none true = refl
+or_none false = refl
 
-      pub mark_gate : get_or marks i false ≡ true → Marked (reached_by t (i - 1)) (mark_names marks r)
-      mark_gate own = rw (next, own) (marked_names r (read_below (i - 1) r (omega arith) reads) is)
+or_true : (b : Bool) → (b || true) ≡ true
+or_true true = refl
+or_true false = refl
 
-  pub mark_skip : {marks : List Bool} (i : ℕ) → n < i → i ≤ n + m → get_or marks i false ≡ false → Marked (reached_by t i) marks → Marked (reached_by t (i - 1)) marks
-  mark_skip i p q own is = rw (next i (record_at (table_of xs (length xs / 8)) (i - 1)) is refl p q, own) is
+module _ {n m o : ℕ} {t : List Record} (formed : WellFormed n m o t) where
+  pub marking_next : {marks : List Bool} (j e : ℕ) → j < o → e ≡ (record_at t (n + m + j)).e1 → node_of e < 1057 → Marking t (n + m) j marks → Marking t (n + m) (j + 1) (set marks (node_of e) true)
+  marking_next {marks} j e h reads low is = record { room = length-set marks (node_of e) true ∙ is.room; marked = λ k p q. go k p q (ℕ_discrete k (node_of e)) }
+    where
+      after : reached_by t (n + m + j) ≡ node_of e ∷ 0 ∷ 0 ∷ reached_by t (n + m + (j + 1))
+      after = let next : suc (n + m + j) ≡ n + m + (j + 1) = omega arith in reached_output formed (n + m + j) (omega arith) (omega arith) ∙ rw (next, reads)
+
+      go : (k : ℕ) → 1 ≤ k → k < 1057 → Dec (k ≡ node_of e) → (get_or (set marks (node_of e) true) k false || member k (reached_by t (n + m + (j + 1)))) ≡ member k (reached_by t (n + m))
+      go k p q (yes here) =
+          let all : member k (reached_by t (n + m + j)) ≡ true = rw (after, here) (member_here (node_of e) _) in
+          let marked : get_or (set marks (node_of e) true) k false ≡ true = rw here (get_or-set_same marks (node_of e) true false (omega (arith, is.room))) in
+          rw marked (sym (or_true (get_or marks k false)) ∙ rw all at (is.marked k p q))
+      go k p q (no other) =
+          let same : member k (reached_by t (n + m + j)) ≡ member k (reached_by t (n + m + (j + 1))) =
+          ap (member k) after ∙ member_other k (node_of e) _ other ∙ member_other k 0 _ (λ z. omega arith) ∙ member_other k 0 _ (λ z. omega arith)
+          in
+          rw (get_or-set_other marks (node_of e) k true false other, ← same) (is.marked k p q)
+
+  pub marking_end : {marks : List Bool} (j : ℕ) → j ≡ o → Marking t (n + m) j marks → Marked (reached_by t (n + m)) marks
+  marking_end {marks} j e is = record { room = is.room; marked = λ k p q. sym (or_none (get_or marks k false)) ∙ (rw (e, reached_none formed, member_nothing k) at (is.marked k p q)) }
+
+  -- one gate further down, of node k
+  module _ {marks : List Bool} (k next : ℕ) (one : next + 1 ≡ k) (few : k < 1057) (p : n < k) (q : k ≤ n + m) (is : Marked (reached_by t k) marks) where
+    handed : reached_by t next ≡ (if get_or marks k false then node_of (record_at t next).e1 ∷ node_of (record_at t next).e2 ∷ node_of (record_at t next).e3 ∷ reached_by t k else reached_by t k)
+    handed = let e : suc next ≡ k = omega arith in rw (reached_gate formed next (omega arith) (omega arith), e, is.marked k (omega arith) few)
+
+    pub mark_gate : (r : Record) → r ≡ record_at t next → Below 1057 r → get_or marks k false ≡ true → Marked (reached_by t next) (mark_names marks r)
+    mark_gate r reads low own = rw (handed, own, ← reads) (marked_names r low is)
+
+    pub mark_skip : get_or marks k false ≡ false → Marked (reached_by t next) marks
+    mark_skip own = rw (handed, own) is
 
   -- the inputs hand nothing down
-  pub mark_end : {marks : List Bool} (i : ℕ) → i ≡ n → Marked (reached_by t i) marks → Marked (reached t) marks
-  mark_end {marks} i e is = subst (λ (ks : List ℕ). Marked ks marks) (reached_all formed i (omega arith)) is
+  pub mark_end : {marks : List Bool} (k : ℕ) → k ≡ n → Marked (reached_by t k) marks → Marked (reached t) marks
+  mark_end {marks} k e is = subst (λ (ks : List ℕ). Marked ks marks) (reached_all formed k (omega arith)) is

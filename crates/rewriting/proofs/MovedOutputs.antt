@@ -1,5 +1,5 @@
 -- Moving the outputs down behind the gates that stay closes up the whole table.
-use Rattle.std.proofs.Common.{◌≡◌, ℕ, suc, ◌+◌, ◌-◌, ◌*◌, ◌/◌, ◌<◌, ◌≤◌, List, length, sym, refl, ap, ◌∙◌, arith}
+use Rattle.std.proofs.Common.{◌≡◌, ℕ, suc, ◌+◌, ◌-◌, ◌*◌, ◌/◌, ◌<◌, ◌≤◌, List, length, sym, ap, ◌∙◌, arith}
 use native.Mathlib.Decide.{dec_lt, ℕ_discrete}
 use Rattle.majority.specs.Table.{record_at, Below, WellFormed}
 use Rattle.majority.specs.Edit.{edges}
@@ -18,9 +18,6 @@ use Rattle.rewriting.proofs.SameRest.{same_record, same_later}
 use Rattle.rewriting.proofs.NewNumbers.{number_lower, number_outputs, renumbered_edges, swept_at}
 
 module _ (f : ℕ → ℕ) (from to : ℕ) (ys : List ℕ) where
-  pub moved_start : Moved f from to 0 ys ys
-  moved_start = record { long = refl; rest = refl; before = λ k h. refl; moved = λ k h. absurd (omega arith) }
-
   -- one record more
   module _ {zs : List ℕ} (j : ℕ) (down : to ≤ from) (room : 8 * (from + j) + 8 ≤ length ys) (is : Moved f from to j ys zs) (r : Record) (reads : r ≡ record_at (table_of zs (length zs / 8)) (from + j)) where
     pub moved_read : r ≡ record_in ys (from + j)

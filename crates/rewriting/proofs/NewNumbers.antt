@@ -9,16 +9,7 @@ use Rattle.majority.specs.declared.Record.{Record}
 use Rattle.rules.proofs.KeptNodes.{kept_in, kept_out, kept_lower}
 use Rattle.rules.proofs.CloseUp.{inputs_stay, outputs_move, closed_at}
 use Rattle.rules.proofs.Sweep.{left, keepable}
-use Rattle.tables.specs.Sound.{Fresh}
 use Rattle.rewriting.specs.inner.ClosedUp.{new_number, Numbered, renumber_by}
-
--- a list of zeros numbers the constant
-pub numbered_start : {ns : List ℕ} → Fresh 0 ns → Numbered (λ k. k) 0 ns
-numbered_start fresh = record {
-  room = fresh.room;
-  lower = λ k. omega (arith, fresh.all k);
-  numbers = λ k h. fresh.all k ∙ omega arith;
-}
 
 -- one node more
 pub numbered_more : {number : ℕ → ℕ} {i : ℕ} {ns : List ℕ} (x : ℕ) → i < 1056 → x ≡ number (i + 1) → x ≤ i + 1 → Numbered number i ns → Numbered number (i + 1) (set ns (i + 1) x)

@@ -1,61 +1,32 @@
--- What a step replies and leaves, from the check and from what was applied.
-use Rattle.std.proofs.Common.{◌≡◌, ℕ, ◌+◌, ◌*◌, ◌/◌, ◌≤◌, List, length, sym, refl, ap, ◌∙◌, arith}
-use Rattle.refusals.specs.Reply.{Reply, accepted, refused, and_then}
-use Rattle.majority.specs.Check.{count}
-use Rattle.rules.specs.Step.{step}
+-- What a step replies and leaves, from the check and from what its change makes.
+use Rattle.std.proofs.Common.{◌≡◌, ℕ, ◌*◌, ◌+◌, ◌/◌, List, length, sym, refl, ap, ◌∙◌, arith}
+use Rattle.rules.specs.Step.{rule_of, step_by, step}
+use Rattle.rules.specs.declared.Rule.{Rule}
 use Rattle.rules.specs.declared.Step.{Step}
 use Rattle.majority.specs.declared.Record.{Record}
 use Rattle.majority.specs.declared.Counts.{Counts}
-use Rattle.rules.proofs.Steps.{step_kept, step_gates}
 use Rattle.tables.specs.Calls.{check_of}
-use Rattle.tables.specs.Sound.{Sound}
-use Rattle.refusals.specs.Why.{Why, why_of}
-use Rattle.tables.specs.Said.{said_check}
-use Rattle.refusals.specs.declared.Refusal.{Refusal}
-use Rattle.tables.specs.declared.Checked.{Checked}
-use Rattle.tables.specs.declared.Checked.TheVariants.{Refused}
+use Rattle.tables.specs.Sound.{Sound, table_in}
 use Rattle.tables.proofs.Encoded.{records_checked}
-use Rattle.tables.proofs.Sound.{sound_accepted}
-use Rattle.tables.proofs.AfterCheck.{after_refused}
-use Rattle.rewriting.specs.inner.Applied.{used_by, step_in, said_applied, AppliedTo}
-use Rattle.rewriting.specs.Calls.{step_table, step_of, step_bytes}
-use Rattle.rewriting.specs.declared.Applied.{Applied}
-use Rattle.rewriting.specs.declared.Applied.TheVariants.{Taken as AppliedTaken, Refused as AppliedRefused}
+use Rattle.tables.proofs.AfterCheck.{checked_length}
+use Rattle.rewriting.specs.inner.Applied.{used_by, change_of, change_in, step_in, length_of}
+use Rattle.rewriting.specs.Calls.{after_reply, step_table, step_of, step_bytes}
+use Rattle.rewriting.specs.declared.applying.Change.{Change}
+use Rattle.std.specs.Prelude.{Result, Ok, Err}
+use Rattle.refusals.specs.declared.Refusal.{Refusal}
+use Rattle.refusals.specs.Reply.{◌>>=◌}
 
--- what a taken step made, and that it has as many records as its counts say
-pub record Made (xs : List ℕ) (c : Counts) (s : Step) (gates : ℕ) : Type 0 where
-  pub table : List Record
-  pub is : step_in xs c s ≡ accepted table
-  pub counted : gates ≡ count 2 table
-  pub long : length table ≡ c.inputs + gates + c.outputs
-  pub few : gates ≤ 1024
-
-module _ {xs : List ℕ} {c : Counts} (sound : Sound xs c) (s : Step) (gates : ℕ) where
-  made : accepted gates ≡ and_then (step_in xs c s) (λ t. accepted (count 2 t)) → Made xs c s gates
-  made e = go (step_in xs c s) refl e
-    where
-      go : (r : Reply (List Record)) → step_in xs c s ≡ r → accepted gates ≡ and_then r (λ t. accepted (count 2 t)) → Made xs c s gates
-      go (accepted t) is e =
-          let formed = (sound_accepted sound).formed in
-          let same : gates ≡ count 2 t = cc in
-          record {
-            table = t;
-            is = is;
-            counted = same;
-            long = (step_kept formed (length xs) s t is).formed.whole ∙ ap (λ (m : ℕ). c.inputs + m + c.outputs) (sym same);
-            few = rw same (step_gates formed (length xs) s t is);
-          }
-      go (refused w) is e = let z : ◌≡◌ {A = ℕ} 0 1 = cc in absurd (omega arith)
-
-  pub taken_made : {r : Applied} {ys : List ℕ} → AppliedTo xs c (step_in xs c s) r ys → r ≡ AppliedTaken gates → Made xs c s gates
-  taken_made done e = made (ap said_applied (sym e) ∙ done.reply)
-
-pub not_taken : {A B : Type 0} (r : Reply A) (f : A → B) (w : Why) → refused w ≡ and_then r (λ x. accepted (f x)) → r ≡ refused w
-not_taken (accepted x) f w e = let z : ◌≡◌ {A = ℕ} 0 1 = cc in absurd (omega arith)
-not_taken (refused v) f w e = let same : v ≡ w = cc in ap refused same
+-- a refused step leaves every byte
+pub refused_step : (xs : List ℕ) (used : ℕ) (s : Step) (w : Refusal) → step_of xs used s ≡ Err w → step_bytes xs used s ≡ xs
+unfolding step_of step_bytes
+refused_step xs used s w e = go (step_table xs used s) e
+  where
+    go : (r : Result (List Record) Refusal) → ◌>>=◌ r (λ t. Ok (8 * length t)) ≡ Err w → after_reply r used xs ≡ xs
+    go (Ok t) e = let z : ◌≡◌ {A = ℕ} 0 1 = cc in absurd (omega arith)
+    go (Err v) e = refl
 
 -- a sound table is accepted at its own length
-pub sound_checked : {xs : List ℕ} {c : Counts} → Sound xs c → check_of xs (used_by c) ≡ accepted c
+pub sound_checked : {xs : List ℕ} {c : Counts} → Sound xs c → check_of xs (used_by c) ≡ Ok c
 sound_checked {xs} {c} sound =
     let count : used_by c / 8 ≡ c.inputs + c.gates + c.outputs = omega arith in
     records_checked xs (used_by c) (omega arith) sound.fits ∙ rw count sound.sound
@@ -65,29 +36,57 @@ module _ {xs : List ℕ} {c : Counts} (sound : Sound xs c) (s : Step) where
   unfolding step_table
   table_same = let count : used_by c / 8 ≡ c.inputs + c.gates + c.outputs = omega arith in rw (sound_checked sound, count)
 
-  pub step_leaves : {done : Applied} {ys : List ℕ} → AppliedTo xs c (step_in xs c s) done ys → ys ≡ step_bytes xs (used_by c) s
-  unfolding step_bytes
-  step_leaves applied = applied.bytes ∙ rw table_same
+  -- a step is the change by the rule that has its number
+  by_change : step_in xs c s ≡ ◌>>=◌ (change_of s) (change_in xs c)
+  unfolding step change_of
+  by_change = go (rule_of s.rule)
+    where
+      go : (r : Result Rule Refusal) → ◌>>=◌ r (λ rule. step_by (length xs) c.inputs c.gates (table_in xs c) rule s.gate s.a s.b)
+          ≡ ◌>>=◌ (◌>>=◌ r (λ rule. Ok (record { rule = rule; gate = s.gate; a = s.a; b = s.b }))) (change_in xs c)
+      go (Ok rule) = refl
+      go (Err w) = refl
 
-  pub step_replies : {gates : ℕ} → Made xs c s gates → step_of xs (used_by c) s ≡ accepted (8 * (c.inputs + gates + c.outputs))
-  unfolding step_of
-  step_replies m = rw (table_same, m.is, m.long)
+  module _ {h : Change} (is : change_of s ≡ Ok h) where
+    known_table : step_table xs (used_by c) s ≡ change_in xs c h
+    known_table = table_same ∙ by_change ∙ rw is
 
-  pub step_refuses : {done : Applied} {ys : List ℕ} (refusal : Refusal) → AppliedTo xs c (step_in xs c s) done ys → done ≡ AppliedRefused refusal
-      → step_of xs (used_by c) s ≡ refused (why_of refusal)
-  unfolding step_of
-  step_refuses refusal applied e = rw (table_same, not_taken (step_in xs c s) (count 2) _ (ap said_applied (sym e) ∙ applied.reply))
+    pub known_replies : length_of (change_in xs c h) ≡ step_of xs (used_by c) s
+    unfolding step_of
+    known_replies = rw known_table
 
--- where the table is refused
-module _ (xs : List ℕ) (used : ℕ) (r : Checked) (said : said_check r ≡ check_of xs used) (s : Step) (refusal : Refusal) (is : r ≡ Refused refusal) where
-  table_refused : step_table xs used s ≡ refused (why_of refusal)
-  unfolding step_table
-  table_refused = after_refused xs used (λ (rs : List Record) (c : Counts). step (length xs) c.inputs c.gates rs s) r said refusal is
+    pub known_leaves : after_reply (change_in xs c h) (used_by c) xs ≡ step_bytes xs (used_by c) s
+    unfolding step_bytes
+    known_leaves = rw known_table
 
-  pub refused_replies : step_of xs used s ≡ refused (why_of refusal)
-  unfolding step_of
-  refused_replies = rw table_refused
+  module _ {w : Refusal} (is : change_of s ≡ Err w) where
+    unknown_table : step_table xs (used_by c) s ≡ Err w
+    unknown_table = table_same ∙ by_change ∙ rw is
+
+    pub unknown_replies : step_of xs (used_by c) s ≡ Err w
+    unfolding step_of
+    unknown_replies = rw unknown_table
+
+    pub unknown_leaves : step_bytes xs (used_by c) s ≡ xs
+    unfolding step_bytes
+    unknown_leaves = rw unknown_table
+
+-- where the table is accepted, at its own length
+module _ (xs : List ℕ) (used : ℕ) (c : Counts) (is : check_of xs used ≡ Ok c) (s : Step) where
+  same : used_by c ≡ used
+  same = sym (checked_length xs used c is)
+
+  pub accepted_replies : step_of xs (used_by c) s ≡ step_of xs used s
+  accepted_replies = ap (λ (u : ℕ). step_of xs u s) same
+
+  pub accepted_leaves : step_bytes xs (used_by c) s ≡ step_bytes xs used s
+  accepted_leaves = ap (λ (u : ℕ). step_bytes xs u s) same
+
+-- and where it is refused
+module _ (xs : List ℕ) (used : ℕ) (w : Refusal) (is : check_of xs used ≡ Err w) (s : Step) where
+  pub refused_replies : step_of xs used s ≡ Err w
+  unfolding step_of step_table
+  refused_replies = rw is
 
   pub refused_leaves : step_bytes xs used s ≡ xs
-  unfolding step_bytes
-  refused_leaves = rw table_refused
+  unfolding step_bytes step_table
+  refused_leaves = rw is

@@ -1,7 +1,6 @@
 -- After a step that was taken the buffer holds a sound table of the used length that the step replied.
 use Rattle.std.proofs.Common.{◌≡◌, ℕ, ◌+◌, ◌-◌, ◌*◌, ◌/◌, ◌≤◌, List, ◌++◌, length, drop, replicate, sym, refl, ◌∙◌, arith, length-append, length-drop}
 use lib.ListN.{length-replicate}
-use Rattle.refusals.specs.Reply.{Reply, accepted, refused, and_then}
 use Rattle.majority.specs.Check.{count}
 use Rattle.rules.specs.declared.Step.{Step}
 use Rattle.majority.specs.declared.Record.{Record}
@@ -13,9 +12,12 @@ use Rattle.tables.specs.Sound.{Sound}
 use Rattle.tables.proofs.Encoded.{holding_length, holding_table}
 use Rattle.tables.proofs.Sound.{sound_accepted}
 use Rattle.rewriting.specs.inner.Applied.{used_by, step_in}
-use Rattle.rewriting.specs.Calls.{holding_instead, after_reply, step_of, step_bytes}
-use Rattle.rewriting.specs.Script.{counts_at}
-use Rattle.rewriting.proofs.Replies.{table_same}
+use Rattle.rewriting.specs.Calls.{holding_instead, step_of, step_bytes}
+use Rattle.rewriting.specs.Script.{counts_at, counts_after}
+use Rattle.rewriting.proofs.Replies.{table_same, refused_step}
+use Rattle.std.specs.Prelude.{Result, Ok, Err}
+use Rattle.refusals.specs.declared.Refusal.{Refusal}
+use Rattle.refusals.specs.Reply.{◌>>=◌}
 
 -- a table put in place of another is the one that its buffer holds
 module _ (t : List Record) (used : ℕ) (xs : List ℕ) where
@@ -29,7 +31,7 @@ module _ (t : List Record) (used : ℕ) (xs : List ℕ) where
   unfolding holding_instead
   instead_table = holding_table t _
 
-module _ {xs : List ℕ} {c : Counts} (sound : Sound xs c) (s : Step) (used : ℕ) (taken : step_of xs (used_by c) s ≡ accepted used) where
+module _ {xs : List ℕ} {c : Counts} (sound : Sound xs c) (s : Step) (used : ℕ) (taken : step_of xs (used_by c) s ≡ Ok used) where
   pub record SoundNext : Type 0 where
     pub next : Sound (step_bytes xs (used_by c) s) (counts_at c used)
     pub length_is : used_by (counts_at c used) ≡ used
@@ -38,9 +40,9 @@ module _ {xs : List ℕ} {c : Counts} (sound : Sound xs c) (s : Step) (used : �
   unfolding step_of step_bytes
   sound_next = go (step_in xs c s) refl (sym (rw (table_same sound s)) ∙ taken)
     where
-      go : (r : Reply (List Record)) → step_in xs c s ≡ r → and_then r (λ t. accepted (8 * length t)) ≡ accepted used → SoundNext
-      go (refused w) is e = let z : ◌≡◌ {A = ℕ} 0 1 = cc in absurd (omega arith)
-      go (accepted t) is e =
+      go : (r : Result (List Record) Refusal) → step_in xs c s ≡ r → ◌>>=◌ r (λ t. Ok (8 * length t)) ≡ Ok used → SoundNext
+      go (Err w) is e = let z : ◌≡◌ {A = ℕ} 0 1 = cc in absurd (omega arith)
+      go (Ok t) is e =
           let len : 8 * length t ≡ used = cc in
           let was = sound_accepted sound in
           let now = step_accepted was (length xs) s t is in
@@ -58,11 +60,7 @@ module _ {xs : List ℕ} {c : Counts} (sound : Sound xs c) (s : Step) (used : �
             length_is = omega arith;
           }
 
--- a step keeps the buffer's length
-pub step_length : {xs : List ℕ} {c : Counts} → Sound xs c → (s : Step) → length (step_bytes xs (used_by c) s) ≡ length xs
-unfolding step_bytes
-step_length {xs} {c} sound s = rw (table_same sound s) (go (step_in xs c s) refl)
-  where
-    go : (r : Reply (List Record)) → step_in xs c s ≡ r → length (after_reply r (used_by c) xs) ≡ length xs
-    go (refused w) is = refl
-    go (accepted t) is = instead_length t (used_by c) xs sound.fits (step_fits (sound_accepted sound).formed (length xs) s t is)
+-- and so after any step
+pub sound_after : {xs ys : List ℕ} {c : Counts} → Sound xs c → (s : Step) (r : Result ℕ Refusal) → r ≡ step_of xs (used_by c) s → ys ≡ step_bytes xs (used_by c) s → Sound ys (counts_after c r)
+sound_after {xs} {ys} {c} sound s (Ok used) reply bytes = rw bytes (sound_next sound s used (sym reply)).next
+sound_after {xs} {ys} {c} sound s (Err w) reply bytes = rw (bytes ∙ refused_step xs (used_by c) s w (sym reply)) sound

@@ -1,6 +1,6 @@
 -- What making room, three copies and the vote leave in the buffer: the table that a voter makes. The copies are made from the last down, so
 -- that above where they stand the new table is there, and below what was there when room was made.
-use Rattle.std.proofs.Common.{◌≡◌, ℕ, suc, ◌+◌, ◌-◌, ◌*◌, ◌/◌, ◌%◌, ◌<◌, ◌≤◌, true, false, leb, List, length, sym, ap, ◌∙◌, subst, arith, le-ltb, lt-ltb, leb-true}
+use Rattle.std.proofs.Common.{◌≡◌, ℕ, suc, ◌+◌, ◌-◌, ◌*◌, ◌/◌, ◌%◌, ◌<◌, ◌≤◌, true, false, leb, List, length, sym, refl, ap, ◌∙◌, subst, arith, le-ltb, lt-ltb, leb-true}
 use native.Mathlib.Decide.{dec_lt}
 use Rattle.majority.specs.Edge.{node_of, raise, redirect}
 use Rattle.majority.specs.Table.{record_at}
@@ -16,7 +16,7 @@ use Rattle.rules.proofs.Redirect.{redirected_at}
 use Rattle.rules.proofs.GateNodes.{GateOf}
 use Rattle.rules.proofs.Copies.{CopyIn, there, copy_reads}
 use Rattle.rules.proofs.Voter.{first_in, second_in, third_in, thrice}
-use Rattle.tables.specs.Bytes.{record_in, decode, table_of, records_of, put_record, holding}
+use Rattle.tables.specs.Bytes.{record_in, decode, table_of, put_record, holding}
 use Rattle.tables.specs.Sound.{table_in}
 use Rattle.tables.proofs.Decoded.{length_decode, decode_at, table_at}
 use Rattle.tables.proofs.Encoded.{Bytes}
@@ -26,7 +26,7 @@ use Rattle.editing.proofs.Changed.{grown_length, grown_low, grown_new, grown_hig
 use Rattle.editing.proofs.Inserted.{inserted_start, inserted_end}
 use Rattle.rewriting.specs.inner.Fitting.{Votable}
 use Rattle.rewriting.specs.inner.Copied.{above, copy_edge, copying_of, copied_by, Copyable, Copied}
-use Rattle.rewriting.proofs.Gate.{node_at, at_formed, at_small, at_length}
+use Rattle.rewriting.proofs.Gate.{at_formed, at_small, at_length}
 use Rattle.rewriting.proofs.Edits.{same_edges}
 use Rattle.rewriting.proofs.CopiedGates.{copied_is}
 use Rattle.rewriting.proofs.SameRest.{same_record, same_later}
@@ -236,9 +236,9 @@ module _ {xs : List ℕ} {c : Counts} {g a b : ℕ} (can : Votable xs c g a b) w
   third_root = root_made (third_copy n g a b table) (third_in is a b can.order can.form) (omega (arith, (small_copy (2 * k) 0 (omega arith) (omega arith)).1))
 
   -- the polarity that the code reads
-  pub polarity_read : pair_in true a b (node_record (records_of xs) (pair_gate n g a b table)) ≡ pair_polarity n g a b table
+  pub polarity_read : pair_in true a b (node_record table (pair_gate n g a b table)) ≡ pair_polarity n g a b table
   unfolding pair_polarity
-  polarity_read = ap (pair_in true a b) (node_at can.at.sound (pair_gate n g a b table) (omega (arith, can.at.upto, found)))
+  polarity_read = refl
 
   -- the vote
   pub voter_holding : {ys zs : List ℕ} (i : ℕ) (r : Record) → Bytes ys → Voting 0 ys → i ≡ g - 1 + 3 * k → r ≡ votes n g a b table → zs ≡ put_record ys i r → Bytes zs

@@ -1,28 +1,18 @@
 -- Scripts (SPEC 5.5): steps are taken in order until one is refused, each with the used length that the one before replied.
-use Rattle.std.specs.Prelude.{ℕ, zero, suc, ◌+◌, ◌-◌, ◌/◌, ◌%◌, Bool, not, List, [], ◌∷◌, length, ◌==◌, if◌then◌else◌}
-use Rattle.refusals.specs.Reply.{Reply, accepted, refused}
+use Rattle.std.specs.Prelude.{ℕ, zero, suc, ◌+◌, ◌-◌, ◌/◌, ◌%◌, Bool, not, List, [], ◌∷◌, length, ◌==◌, if◌then◌else◌, Result, Ok, Err, Option, None, Some}
 use Rattle.rules.specs.declared.Step.{Step}
 use Rattle.majority.specs.declared.Counts.{Counts}
 use Rattle.tables.specs.Bytes.{field_of}
 use Rattle.tables.specs.Calls.{check_of}
-use Rattle.refusals.specs.Why.{Why, why, why_of}
-use Rattle.refusals.specs.declared.Refusal.{Refusal}
 use Rattle.rewriting.specs.Calls.{step_of, step_bytes}
-use Rattle.rewriting.specs.declared.Ending.{Ending}
-use Rattle.rewriting.specs.declared.Ending.TheVariants.{Finished, Stopped}
 use Rattle.rewriting.specs.declared.Progress.{Progress}
-use Rattle.rewriting.specs.declared.Stepped.{Stepped}
-use Rattle.rewriting.specs.declared.Stepped.TheVariants.{Used, Refused}
+use Rattle.refusals.specs.declared.Refusal.{Refusal}
+use Rattle.refusals.specs.declared.Refusal.TheVariants as refusal
 
--- how a script ended: with no refusal, or with a refusal
-pub data End : Type 0 where
-  finished : End
-  stopped : Why → End
-
--- what a script replies, and the bytes that it leaves
+-- what a script replies, and the bytes that it leaves: the steps taken, the refusal that stopped it, if one did, and the used length
 pub record Run : Type 0 where
   pub taken : ℕ
-  pub end : End
+  pub end : Option Refusal
   pub used : ℕ
   pub bytes : List ℕ
 
@@ -44,27 +34,27 @@ abbrev pub whole : List ℕ → Bool
 whole xs = length xs % 8 == 0
 
 -- what follows an accepted step, or a refused one
-abbrev pub by_reply : {A : Type 0} → Reply ℕ → (ℕ → A) → (Why → A) → A
-by_reply (accepted used) on stop = on used
-by_reply (refused w) on stop = stop w
+abbrev pub by_reply : {A : Type 0} → Result ℕ Refusal → (ℕ → A) → (Refusal → A) → A
+by_reply (Ok used) on stop = on used
+by_reply (Err w) on stop = stop w
 
 -- no step is taken
-abbrev pub untaken : Why → List ℕ → ℕ → Run
-untaken w xs used = record { taken = 0; end = stopped w; used = used; bytes = xs }
+abbrev pub untaken : Refusal → List ℕ → ℕ → Run
+untaken w xs used = record { taken = 0; end = Some w; used = used; bytes = xs }
 
 -- where a step on the first `used` bytes of a buffer replies `reply` and leaves the bytes `left`
-module _ (reply : List ℕ → ℕ → Step → Reply ℕ) (left : List ℕ → ℕ → Step → List ℕ) where
+module _ (reply : List ℕ → ℕ → Step → Result ℕ Refusal) (left : List ℕ → ℕ → Step → List ℕ) where
   -- the steps, one after another, where `taken` were taken before
   unfoldable pub run_by : ℕ → List ℕ → ℕ → List Step → Run
-  run_by taken xs used [] = record { taken = taken; end = finished; used = used; bytes = xs }
+  run_by taken xs used [] = record { taken = taken; end = None; used = used; bytes = xs }
   run_by taken xs used (s ∷ steps) =
       by_reply (reply xs used s)
       (λ next. run_by (taken + 1) (left xs used s) next steps)
-      (λ w. record { taken = taken; end = stopped w; used = used; bytes = xs })
+      (λ w. record { taken = taken; end = Some w; used = used; bytes = xs })
 
-  abbrev pub after_check : Reply Counts → List ℕ → ℕ → List ℕ → Run
-  after_check (refused w) xs used steps = untaken w xs used
-  after_check (accepted c) xs used steps = if not (whole steps) then untaken (why 12) xs used else run_by 0 xs used (steps_of steps)
+  abbrev pub after_check : Result Counts Refusal → List ℕ → ℕ → List ℕ → Run
+  after_check (Err w) xs used steps = untaken w xs used
+  after_check (Ok c) xs used steps = if not (whole steps) then untaken refusal.Script xs used else run_by 0 xs used (steps_of steps)
 
   -- a script: refusals 1 to 5 of the table, then 12, then its steps
   unfoldable pub script_by : List ℕ → ℕ → List ℕ → Run
@@ -77,24 +67,24 @@ run_from = run_by step_of step_bytes
 abbrev pub script_run : List ℕ → ℕ → List ℕ → Run
 script_run = script_by step_of step_bytes
 
--- the end of each case of the enum, and the reply
-abbrev pub said_end : Ending → End
-said_end Finished = finished
-said_end (Stopped r) = stopped (why_of r)
-
 -- the run of which p is the reply and ys are the bytes
 abbrev pub run_of : Progress → List ℕ → Run
-run_of p ys = record { taken = p.taken; end = said_end p.ending; used = p.used; bytes = ys }
+run_of p ys = record { taken = p.taken; end = p.refusal; used = p.used; bytes = ys }
 
 -- one step more: it counts and gives the used length, or stops the script
-abbrev pub progress_after : Progress → Stepped → Progress
-progress_after p (Used n) = record { taken = p.taken + 1; used = n; ending = Finished }
-progress_after p (Refused r) = record { taken = p.taken; used = p.used; ending = Stopped r }
+abbrev pub progress_after : Progress → Result ℕ Refusal → Progress
+progress_after p (Ok n) = record { taken = p.taken + 1; used = n; refusal = None }
+progress_after p (Err r) = record { taken = p.taken; used = p.used; refusal = Some r }
 
 -- the counts of a table of this used length, with the inputs and outputs of c
 abbrev pub counts_at : Counts → ℕ → Counts
 counts_at c used = record { inputs = c.inputs; gates = used / 8 - c.inputs - c.outputs; outputs = c.outputs }
 
+-- the counts after a step that replied so
+abbrev pub counts_after : Counts → Result ℕ Refusal → Counts
+counts_after c (Ok used) = counts_at c used
+counts_after c (Err w) = c
+
 -- the progress of a script of which no step was taken
 abbrev pub stopped_by : ℕ → Refusal → Progress
-stopped_by used r = record { taken = 0; used = used; ending = Stopped r }
+stopped_by used r = record { taken = 0; used = used; refusal = Some r }

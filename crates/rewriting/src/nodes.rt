@@ -1,34 +1,30 @@
-// The records of the nodes of a table in a slice.
+// The records of the nodes of an accepted table.
 ghost use Rattle.std.specs.Prelude.{◌≡◌, ◌+◌, ◌-◌, ◌≤◌};
 ghost use Rattle.majority.specs.Edit.{node_record};
 ghost use Rattle.rules.specs.Rules.{named, plain as plain_edge};
-ghost use Rattle.tables.specs.Bytes.{records_of};
 
 use majority::{Counts, Record, node};
-use tables::record_at;
+use tables::SoundTable;
 
 // Where a node's record stands. The constant has none; its place is that of the first.
 pub(crate) fn place(k: u16) -> usize
     ensures { result ≡ k - 1 }
 {
-    if k == 0 {
-        return 0;
-    }
-    (k - 1) as usize
+    usize::from(k).saturating_sub(1)
 }
 
 // The record of a node.
-pub(crate) fn node_record(s: &[u8], k: u16) -> Record
-    ensures { result ≡ node_record (records_of s.now) k }
+pub(crate) fn node_record(table: &SoundTable<'_>, k: u16) -> Record
+    ensures { result ≡ node_record table.now.records k }
 {
-    record_at(s, place(k))
+    table.record(place(k))
 }
 
 // The record of the node that an edge names.
-pub(crate) fn named_record(s: &[u8], edge: u16) -> Record
-    ensures { result ≡ named (records_of s.now) edge }
+pub(crate) fn named_record(table: &SoundTable<'_>, edge: u16) -> Record
+    ensures { result ≡ named table.now.records edge }
 {
-    node_record(s, node(edge))
+    node_record(table, node(edge))
 }
 
 // The uninverted edge to a node.

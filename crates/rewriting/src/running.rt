@@ -1,35 +1,50 @@
 // A script on a table that was checked.
-ghost use Rattle.std.specs.Prelude.{◌≡◌, not};
+ghost use Rattle.std.specs.Prelude.{◌≡◌, ◌≤◌, length, IfOk};
 ghost use Rattle.tables.specs.Sound.{Sound};
 ghost use Rattle.rewriting.specs.inner.Applied.{used_by};
+ghost use Rattle.rewriting.specs.inner.Asked.{asked_script, asked_follow};
 ghost use Rattle.rewriting.specs.inner.Places.{Places};
 ghost use Rattle.rewriting.specs.Through.{through_steps};
 ghost use Rattle.rewriting.specs.Follow.{followed_places};
-ghost use Rattle.rewriting.specs.Script.{whole, step_at, steps_of, run_from, run_of, stopped_by, counts_at};
+ghost use Rattle.rewriting.specs.Script.{step_at, steps_of, run_from, run_of};
 
-use crate::following::take_followed;
-use crate::{Ending, Progress};
+use crate::Progress;
+use crate::edited_table::EditedTable;
 use majority::Counts;
 use refusals::Refusal;
 use rules::Step;
-use tables::field_of;
+use tables::{check, field_of};
 
-// The progress of a script of which no step was taken.
-pub(crate) fn stopped(used: usize, refusal: Refusal) -> Progress
-    ensures { result ≡ stopped_by used refusal }
+// The counts of the table in the first used bytes, where a script of these steps may begin on it.
+#[tactic(auto, unfolding(crate::specs::inner::Asked::asked_script))]
+pub(crate) fn ask_script(s: &[u8], used: usize, steps: &[u8]) -> Result<Counts, Refusal>
+    ensures reply { result ≡ asked_script s.now used steps.now }
+    ensures sound { IfOk result (λ c. Sound s.now c) }
 {
-    Progress {
-        taken: 0,
-        used,
-        ending: Ending::Stopped(refusal),
+    let counts = check(s, used)?;
+    if steps.len() % 8 != 0 {
+        return Err(Refusal::Script);
     }
+    Ok(counts)
 }
 
-// The script is not a whole number of steps long.
-pub(crate) fn uneven(steps: &[u8]) -> bool
-    ensures { result ≡ not (whole steps.now) }
+// The same where so many places are lent for its gates.
+#[tactic(auto, unfolding(crate::specs::inner::Asked::asked_follow))]
+pub(crate) fn ask_follow(
+    s: &[u8],
+    used: usize,
+    steps: &[u8],
+    places: usize,
+) -> Result<Counts, Refusal>
+    ensures reply { result ≡ asked_follow s.now used steps.now places }
+    ensures sound { IfOk result (λ c. Sound s.now c) }
+    ensures room { IfOk result (λ c. c.gates ≤ places) }
 {
-    steps.len() % 8 != 0
+    let counts = ask_script(s, used, steps)?;
+    if places < counts.gates {
+        return Err(Refusal::Room);
+    }
+    Ok(counts)
 }
 
 // Step i of a script.
@@ -44,35 +59,18 @@ fn step_at(steps: &[u8], i: usize) -> Step
     }
 }
 
-// The counts of a table of this used length, with the inputs and outputs of these.
-fn counts_at(counts: Counts, used: usize) -> Counts
-    requires { used_by (counts_at counts used) ≡ used }
-    ensures { result ≡ counts_at counts used }
-{
-    Counts {
-        inputs: counts.inputs,
-        gates: used / 8 - counts.inputs - counts.outputs,
-        outputs: counts.outputs,
-    }
-}
-
-// Takes the steps until one is refused, and with each the first places.
-#[tactic(auto, using(crate::proofs::ScriptTurns::step_next, crate::proofs::ScriptTurns::turn_on, crate::proofs::SoundAfterStep::sound_next, crate::proofs::SoundAfterStep::step_length, crate::proofs::FollowedPlaces::past_taken, crate::proofs::FollowedPlaces::places_next, crate::proofs::FollowedPlaces::past_length, crate::proofs::ThroughSteps::through_on, crate::proofs::ScriptTurns::steps_end, crate::proofs::ThroughSteps::through_end, crate::proofs::ScriptTurns::turn_off, crate::proofs::ScriptTurns::turn_refused, crate::proofs::ThroughSteps::through_off))]
-pub(crate) fn run(
-    s: &mut [u8],
-    counts: Counts,
-    steps: &[u8],
-    places: &mut [u16],
-    followed: usize,
-) -> Progress
-    requires { Sound s.old counts × Places counts.inputs counts.gates followed places.old }
-    ensures reply { run_of result s.new ≡ run_from 0 s.old (used_by counts) (steps_of steps.now) }
-    ensures places { places.new ≡ through_steps (followed_places counts.inputs followed) s.old (used_by counts) (steps_of steps.now) places.old }
+// Takes the steps until one is refused, and with each the places.
+#[tactic(auto, using(crate::proofs::ScriptTurns::steps_end, crate::proofs::ThroughSteps::through_end))]
+pub(crate) fn run(table: &mut EditedTable<'_>, steps: &[u8], places: &mut [u16]) -> Progress
+    requires { Places table.old.counts.inputs table.old.counts.gates (length places.old) places.old }
+    ensures same_reference { table.new.bytes.ghost_name ≡ table.old.bytes.ghost_name }
+    ensures reply { run_of result table.new.bytes.now ≡ run_from 0 table.old.bytes.now (used_by table.old.counts) (steps_of steps.now) }
+    ensures places { places.new ≡ through_steps (followed_places table.old.counts.inputs (length places.old)) table.old.bytes.now (used_by table.old.counts) (steps_of steps.now) places.old }
 {
     let mut progress = Progress {
         taken: 0,
-        used: 8 * (counts.inputs + counts.gates + counts.outputs),
-        ending: Ending::Finished,
+        used: table.used(),
+        refusal: None,
     };
     let n = steps.len() / 8;
     let mut i = 0;
@@ -80,16 +78,10 @@ pub(crate) fn run(
         if n <= i {
             break progress;
         }
-        let used = progress.used;
-        let step = step_at(steps, i);
-        let outcome = take_followed(s, counts_at(counts, used), step, places, followed);
-        progress = progress.after(outcome);
-        let ending = progress.ending;
-        match ending {
-            Ending::Finished => {}
-            Ending::Stopped(_) => {
-                break progress;
-            }
+        let reply = table.take_followed(step_at(steps, i), places);
+        progress = progress.after(reply);
+        if progress.refusal.is_some() {
+            break progress;
         }
         i += 1;
     };

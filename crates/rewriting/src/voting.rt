@@ -4,7 +4,7 @@ ghost use Rattle.majority.specs.Edit.{edges};
 ghost use Rattle.majority.specs.Level.{level as level_of};
 ghost use Rattle.rules.specs.Voter.{edge_to, pair_in, has_pair, pair_gate, voter_form, in_block, voter as voter_rule};
 ghost use Rattle.tables.specs.Bytes.{holding};
-ghost use Rattle.tables.specs.Sound.{Sound, table_in};
+ghost use Rattle.tables.specs.Sound.{table_in};
 ghost use Rattle.rewriting.specs.inner.Fitting.{AtGate, Votable};
 ghost use Rattle.rewriting.specs.inner.Copied.{copying_of, replaced_by, rise_by, copied_by, Copyable, Copied};
 
@@ -13,8 +13,7 @@ use editing::{make_room, names};
 use majority::{Counts, GATE, Record, flipped};
 use questions::set_levels;
 use rules::both_among;
-use std::num::wrapping_add_u16;
-use tables::{put_record, record_at};
+use tables::{SoundTable, put_record, record_at};
 
 // The edge to a node, inverted or not.
 fn edge_to(inverted: bool, k: u16) -> u16
@@ -30,7 +29,8 @@ fn edge_to(inverted: bool, k: u16) -> u16
 // Nodes a and b are among the record's edges, both inverted or both not.
 #[tactic(auto, unfolding(rules::specs::Voter::pair_in))]
 fn pair_in(inverted: bool, a: u16, b: u16, r: Record) -> bool
-    requires { (a ≤ 1057) × (b ≤ 1057) }
+    requires a { a ≤ 1057 }
+    requires b { b ≤ 1057 }
     ensures { result ≡ pair_in inverted a b r }
 {
     both_among(edge_to(inverted, a), edge_to(inverted, b), r)
@@ -39,7 +39,8 @@ fn pair_in(inverted: bool, a: u16, b: u16, r: Record) -> bool
 // Nodes a and b are among the record's edges in the same polarity. Few records name a at all.
 #[tactic(auto, using(crate::proofs::PairSearch::unnamed_pair), unfolding(rules::specs::Voter::has_pair))]
 fn has_pair(a: u16, b: u16, r: Record) -> bool
-    requires { (a ≤ 1057) × (b ≤ 1057) }
+    requires a { a ≤ 1057 }
+    requires b { b ≤ 1057 }
     ensures { result ≡ has_pair a b r }
 {
     if !names(a, r) {
@@ -50,59 +51,55 @@ fn has_pair(a: u16, b: u16, r: Record) -> bool
 
 // The first node that is a gate and may read node a.
 fn first_above(inputs: usize, a: u16) -> usize
-    requires { (inputs ≤ 32) × (a ≤ 1057) }
+    requires { inputs ≤ 32 }
     ensures { result ≡ max inputs a + 1 }
 {
-    if inputs < a as usize {
-        return a as usize + 1;
-    }
-    inputs + 1
+    inputs.max(usize::from(a)) + 1
 }
 
 // The lowest gate, at most the given one, that has the pair; one more than the given one where none has.
-#[tactic(auto, using(crate::proofs::Gate::at_small, crate::proofs::Gate::at_node, crate::proofs::PairSearch::without_none, crate::proofs::PairSearch::without_low, crate::proofs::PairSearch::pair_found, crate::proofs::PairSearch::without_then, crate::proofs::PairSearch::without_more, crate::proofs::PairSearch::pair_none))]
-fn pair_gate(s: &[u8], counts: Counts, gate: u16, a: u16, b: u16) -> u16
-    requires { AtGate s.now counts gate × (a < b) × (b < gate) }
-    ensures { result ≡ pair_gate counts.inputs gate a b (table_in s.now counts) }
+fn pair_gate(table: &SoundTable<'_>, gate: u16, a: u16, b: u16) -> u16
+    requires from { table.now.counts.inputs < gate }
+    requires upto { gate ≤ table.now.counts.inputs + table.now.counts.gates }
+    requires order { a < b }
+    requires below { b < gate }
+    ensures { result ≡ pair_gate table.now.counts.inputs gate a b table.now.records }
 {
-    let last = gate as usize;
-    let mut c = first_above(counts.inputs, a);
-    while c <= last {
-        if has_pair(a, b, record_at(s, c - 1)) {
+    for c in first_above(table.counts().inputs, a)..gate as usize + 1 {
+        if has_pair(a, b, table.record(c - 1)) {
             return c as u16;
         }
-        c += 1;
     }
-    c as u16
+    gate + 1
 }
 
 // The level of node a is not above that of node b.
-#[tactic(auto, using(tables::proofs::Sound::sound_accepted, questions::proofs::Levelled::levels_upto, tables::proofs::Sound::fresh))]
-fn levels_fit(s: &[u8], counts: Counts, a: u16, b: u16) -> bool
-    requires { Sound s.now counts × (a < b) × (b ≤ counts.inputs + counts.gates) }
-    ensures { result ≡ nat_le (level_of (table_in s.now counts) a) (level_of (table_in s.now counts) b) }
+fn levels_fit(table: &SoundTable<'_>, a: u16, b: u16) -> bool
+    requires order { a < b }
+    requires upto { b ≤ table.now.counts.inputs + table.now.counts.gates }
+    ensures { result ≡ nat_le (level_of table.now.records a) (level_of table.now.records b) }
 {
     let mut levels = [0u16; 1057];
-    set_levels(&mut levels, s, counts.inputs, b as usize);
+    set_levels(&mut levels, table.bytes, table.counts().inputs, b as usize);
     levels[a as usize] <= levels[b as usize]
 }
 
 // The form that a voter asks for.
 #[tactic(auto, unfolding(rules::specs::Voter::voter_form))]
-pub(crate) fn voter_form(s: &[u8], counts: Counts, gate: u16, a: u16, b: u16) -> bool
-    requires { AtGate s.now counts gate × (a < b) × (b < gate) }
-    ensures { result ≡ voter_form counts.inputs gate a b (table_in s.now counts) }
+pub(crate) fn voter_form(table: &SoundTable<'_>, gate: u16, a: u16, b: u16) -> bool
+    requires from { table.now.counts.inputs < gate }
+    requires upto { gate ≤ table.now.counts.inputs + table.now.counts.gates }
+    requires order { a < b }
+    requires below { b < gate }
+    ensures { result ≡ voter_form table.now.counts.inputs gate a b table.now.records }
 {
-    if gate < pair_gate(s, counts, gate, a, b) {
-        return false;
-    }
-    levels_fit(s, counts, a, b)
+    pair_gate(table, gate, a, b) <= gate && levels_fit(table, a, b)
 }
 
 // How a copy changes edges: both edges to the node that it replaces, and what stands for each; the first edge that names a gate, and by how
 // much such an edge rises.
 #[derive(Clone, Copy)]
-struct Change {
+struct Copying {
     plain: u16,
     inverted: u16,
     to: u16,
@@ -111,67 +108,70 @@ struct Change {
     rise: u16,
 }
 
-// The copy of the gates up to the given one, after `before` inserted gates, in which the node is redirected to the edge.
-fn copying(inputs: usize, gate: u16, before: usize, from: u16, to: u16) -> Change
-    requires { (inputs < gate) × (gate + before ≤ 5000) × (from ≤ 5000) }
-    ensures { result ≡ copying_of inputs gate before from to }
-{
-    Change {
-        plain: 2 * from,
-        inverted: 2 * from + 1,
-        to,
-        other: flipped(to),
-        first: 2 * (inputs as u16 + 1),
-        rise: 2 * (gate as usize + before - inputs - 1) as u16,
+impl Copying {
+    // The copy of the gates up to the given one, after `before` inserted gates, in which the node is redirected to the edge.
+    fn new(inputs: usize, gate: u16, before: usize, from: u16, to: u16) -> Copying
+        requires some { inputs < gate }
+        requires small { gate + before ≤ 5000 }
+        requires known { from ≤ 5000 }
+        ensures { result ≡ copying_of inputs gate before from to }
+    {
+        Copying {
+            plain: 2 * from,
+            inverted: 2 * from + 1,
+            to,
+            other: flipped(to),
+            first: 2 * (inputs as u16 + 1),
+            rise: 2 * (gate as usize + before - inputs - 1) as u16,
+        }
     }
-}
 
-// An edge with what stands for it in the copy.
-#[tactic(auto, unfolding(crate::specs::inner::Copied::replaced_by))]
-fn replaced(copy: Change, edge: u16) -> u16
-    ensures { result ≡ replaced_by copy edge }
-{
-    if edge == copy.plain {
-        return copy.to;
+    // An edge with what stands for it in the copy.
+    #[tactic(auto, unfolding(crate::specs::inner::Copied::replaced_by))]
+    fn replaced(self, edge: u16) -> u16
+        ensures { result ≡ replaced_by self edge }
+    {
+        if edge == self.plain {
+            return self.to;
+        }
+        if edge == self.inverted {
+            return self.other;
+        }
+        edge
     }
-    if edge == copy.inverted {
-        return copy.other;
+
+    // By how much an edge rises in the copy: not at all where it names no gate.
+    #[tactic(auto, unfolding(crate::specs::inner::Copied::rise_by))]
+    fn risen(self, edge: u16) -> u16
+        ensures { result ≡ rise_by self edge }
+    {
+        if edge < self.first { 0 } else { self.rise }
     }
-    edge
-}
 
-// By how much an edge rises in the copy: not at all where it names no gate.
-#[tactic(auto, unfolding(crate::specs::inner::Copied::rise_by))]
-fn rise_of(copy: Change, edge: u16) -> u16
-    ensures { result ≡ rise_by copy edge }
-{
-    if edge < copy.first { 0 } else { copy.rise }
-}
+    // An edge in the copy: what stands for it, and where that names a gate, the copy's own.
+    #[tactic(auto, unfolding(crate::specs::inner::Copied::copied_by))]
+    fn edge(self, edge: u16) -> u16
+        ensures { result ≡ copied_by self edge }
+    {
+        let e = self.replaced(edge);
+        e.wrapping_add(self.risen(e))
+    }
 
-// An edge in the copy: what stands for it, and where that names a gate, the copy's own.
-#[tactic(auto, unfolding(crate::specs::inner::Copied::copied_by))]
-fn copied_edge(copy: Change, edge: u16) -> u16
-    ensures { result ≡ copied_by copy edge }
-{
-    let e = replaced(copy, edge);
-    wrapping_add_u16(e, rise_of(copy, e))
-}
-
-// A record as it stands in the copy, in a block.
-fn copied_record(copy: Change, block: u8, r: Record) -> Record
-    ensures { result ≡ in_block block (edges (copied_by copy) r) }
-{
-    Record {
-        kind: r.kind,
-        block,
-        e1: copied_edge(copy, r.e1),
-        e2: copied_edge(copy, r.e2),
-        e3: copied_edge(copy, r.e3),
+    // A record as it stands in the copy, in a block.
+    fn record(self, block: u8, r: Record) -> Record
+        ensures { result ≡ in_block block (edges (copied_by self) r) }
+    {
+        Record {
+            block,
+            e1: self.edge(r.e1),
+            e2: self.edge(r.e2),
+            e3: self.edge(r.e3),
+            ..r
+        }
     }
 }
 
 // Copies the gates up to the given one, from the last down, to the places after `before` inserted gates, all into one block.
-#[tactic(auto, using(crate::proofs::CopiedGates::copying_start, crate::proofs::CopiedGates::copying_next, crate::proofs::CopiedGates::copying_end))]
 fn copy_gates(s: &mut [u8], inputs: usize, gate: u16, before: usize, from: u16, to: u16, block: u8)
     requires { Copyable inputs gate before from s.old }
     ensures { Copied inputs gate before from to block s.old s.new }
@@ -181,28 +181,26 @@ fn copy_gates(s: &mut [u8], inputs: usize, gate: u16, before: usize, from: u16, 
     if s.len() / 8 < gate as usize + up {
         return;
     }
-    let copy = copying(inputs, gate, before, from, to);
-    let k = gate as usize - inputs;
-    let mut done = 0;
-    while done < k {
-        done += 1;
-        let i = gate as usize - done;
+    let copy = Copying::new(inputs, gate, before, from, to);
+    for done in 0..gate as usize - inputs {
+        let i = gate as usize - 1 - done;
         let r = record_at(s, i);
-        put_record(s, i + up, copied_record(copy, block, r));
+        put_record(s, i + up, copy.record(block, r));
     }
 }
 
 // The copies of a voter are put before the gate, which becomes the majority of their roots. They are made from the last down, so that
 // the gate itself is copied before its place is taken.
-#[tactic(auto, using(crate::proofs::Gate::at_node, crate::proofs::Gate::at_few, crate::proofs::VoterBytes::can_copy, crate::proofs::VoterBytes::found, crate::proofs::VoterBytes::voting_start, crate::proofs::VoterBytes::small_copy, tables::proofs::Put::put_length, crate::proofs::VoterBytes::polarity_read, crate::proofs::Gate::gate_at, crate::proofs::VoterBytes::third_made, crate::proofs::VoterBytes::second_made, crate::proofs::VoterBytes::first_made, crate::proofs::VoterBytes::first_root, crate::proofs::VoterBytes::second_root, crate::proofs::VoterBytes::third_root, crate::proofs::VoterBytes::voter_holding))]
+#[tactic(auto, using(crate::proofs::VoterBytes::can_copy, crate::proofs::VoterBytes::found, crate::proofs::VoterBytes::small_copy))]
 pub(crate) fn vote(s: &mut [u8], counts: Counts, gate: u16, a: u16, b: u16)
     requires { Votable s.old counts gate a b }
     ensures { s.new ≡ holding (voter_rule counts.inputs gate a b (table_in s.old counts)) s.old }
 {
-    let block = node_record(s, gate).block;
     let inputs = counts.inputs;
-    let c = pair_gate(s, counts, gate, a, b);
-    let inverted = pair_in(true, a, b, node_record(s, c));
+    let table = SoundTable { bytes: s, counts };
+    let block = node_record(&table, gate).block;
+    let c = pair_gate(&table, gate, a, b);
+    let inverted = pair_in(true, a, b, node_record(&table, c));
     let to_a = edge_to(inverted, a);
     let to_b = edge_to(inverted, b);
     let not_a = edge_to(true, a);
@@ -212,9 +210,9 @@ pub(crate) fn vote(s: &mut [u8], counts: Counts, gate: u16, a: u16, b: u16)
     copy_gates(s, inputs, gate, k, c, to_a, block);
     copy_gates(s, inputs, gate, 0, b, not_a, block);
     let own = plain(gate);
-    let first = copied_edge(copying(inputs, gate, 0, b, not_a), own);
-    let second = copied_edge(copying(inputs, gate, k, c, to_a), own);
-    let third = copied_edge(copying(inputs, gate, 2 * k, c, to_b), own);
+    let first = Copying::new(inputs, gate, 0, b, not_a).edge(own);
+    let second = Copying::new(inputs, gate, k, c, to_a).edge(own);
+    let third = Copying::new(inputs, gate, 2 * k, c, to_b).edge(own);
     put_record(
         s,
         gate as usize - 1 + 3 * k,

@@ -10,12 +10,13 @@ use Rattle.std.specs.Prelude.{if◌then◌else◌}
 use Rattle.majority.specs.Edge.{node_of, is_inverted}
 use Rattle.majority.specs.Table.{Below}
 use Rattle.translation.specs.Rm3.{operation}
-use Rattle.translation.specs.Translate.{Draft, again, noted, constant, plain, inverted, class_of, is_constant, needs_helper, place, gate3}
+use Rattle.translation.specs.Translate.{Draft, again, noted, class_of, is_constant, needs_helper, place, gate3}
 use Rattle.majority.specs.declared.Record.{Record}
+use Rattle.translation.specs.declared.Class.TheVariants.{Constant, Plain, Inverted}
 use Rattle.translation.specs.declared.Mode.{Mode}
 use Rattle.translation.specs.declared.Mode.TheVariants.{Anew, Once}
 
-class_constant : (e : ℕ) → node_of e ≡ 0 → class_of e ≡ constant
+class_constant : (e : ℕ) → node_of e ≡ 0 → class_of e ≡ Constant
 unfolding class_of
 class_constant e h = rw (eq-eqb (node_of e) 0 h)
 
@@ -23,7 +24,7 @@ class_other : (e : ℕ) → (node_of e ≡ 0 → ⊥) → is_constant (class_of 
 unfolding class_of
 class_other e h = rw (ne_eqb (node_of e) 0 h) (go (is_inverted e))
   where
-    go : (t : Bool) → is_constant (if t then inverted else plain) ≡ false
+    go : (t : Bool) → is_constant (if t then Inverted else Plain) ≡ false
     go true = refl
     go false = refl
 

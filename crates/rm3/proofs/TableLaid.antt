@@ -7,9 +7,10 @@ use native.Mathlib.Decide.{dec_lt, ℕ_discrete}
 use borrow.Author.Tests.{eq-eqb, ne_eqb}
 use lib.ListN.{length, get_or, take, drop, set, length-set, length-append, get_or-append}
 use lib.Seq.{take-suc, length-take-le, get_or-set_same, get_or-set_other, drop-drop, ext_get_or, get_or-append-add}
-use Rattle.majority.specs.Table.{blank, output, record_at}
-use Rattle.translation.specs.Translate.{Draft, more, noted, Placed}
+use Rattle.majority.specs.Table.{blank, input, output, record_at}
+use Rattle.translation.specs.Translate.{Draft, more, after, noted, Placed}
 use Rattle.majority.specs.declared.Record.{Record}
+use Rattle.translation.specs.declared.Mode.{Mode}
 use Rattle.translation.proofs.Begins.{all_more, length_more}
 use Rattle.tables.specs.Bytes.{record_in, table_of, encode, put_record}
 use Rattle.tables.proofs.Decoded.{length_table, table_at}
@@ -92,8 +93,13 @@ writes_put r at hs xs = record { drafts = λ d so. drafted_more d r so; grows = 
 pub writes_same : {f g : Draft → Draft} {at after : ℕ} {hs hs' xs xs' : List ℕ} → ((d : Draft) → Drafted at hs d → g d ≡ f d) → Writes f at after hs hs' xs xs' → Writes g at after hs hs' xs xs'
 writes_same is w = record { drafts = λ d so. rw (is d so) (w.drafts d so); grows = λ d so. rw (is d so) (w.grows d so) }
 
+-- what stands for an input
+pub input_writes : (mode : Mode) (operands : List ℕ) (r : Record) {at : ℕ} {hs xs : List ℕ} → r.kind ≡ 1
+    → Writes (λ d. after mode operands d r) at (at + 1) hs hs xs (put_record xs at input)
+input_writes mode operands r {at} {hs} {xs} e = writes_same (λ d so. rw e) (writes_put input at hs xs)
+
 -- an edge that needs no helper made, and one that does
-pub places_same : {p : Draft → Placed} {x at : ℕ} {hs xs : List ℕ} → ((d : Draft) → Drafted at hs d → p d ≡ record { operand = x; draft = d }) → Places p at (record { operand = x; at = at }) hs hs xs xs
+pub places_same : {p : Draft → Placed} {x at : ℕ} {hs xs : List ℕ} → ((d : Draft) → Drafted at hs d → p d ≡ record { operand = x; draft = d }) → Places p at x at hs hs xs xs
 places_same {p} {x} {at} {hs} {xs} is = record {
   near = omega arith;
   operand = λ d so. sym (ap (λ (q : Placed). q.operand) (is d so));
@@ -102,7 +108,7 @@ places_same {p} {x} {at} {hs} {xs} is = record {
 
 pub places_more : {p : Draft → Placed} {at k : ℕ} {r : Record} {hs xs : List ℕ} → k < 1057
     → ((d : Draft) → Drafted at hs d → p d ≡ record { operand = length d.table + 2; draft = record { table = d.table ++ r ∷ []; helpers = noted k (length d.table + 2) d.helpers } })
-    → Places p at (record { operand = at + 2; at = at + 1 }) hs (set hs k (at + 2)) xs (put_record xs at r)
+    → Places p at (at + 2) (at + 1) hs (set hs k (at + 2)) xs (put_record xs at r)
 places_more {p} {at} {k} {r} {hs} {xs} low is = record {
   near = omega arith;
   operand = λ d so. rw (is d so, so.here);

@@ -1,4 +1,3 @@
 pub mod Calls  -- what each call replies, and the bytes that it leaves (SPEC 6)
 pub mod Claimed  -- the same where counts are claimed (SPEC 7)
-pub mod Said  -- the reply of each case of the enums
 pub mod inner  -- what private functions keep

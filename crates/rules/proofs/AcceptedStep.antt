@@ -7,9 +7,7 @@ use native.Mathlib.Omega.{arith}
 use borrow.Author.Tests.{ltb-true, ltb-false, leb-true, le-ltb, not-false}
 use lib.Dec.{ltb, leb, eqb}
 use lib.ListN.{length}
-use Rattle.refusals.specs.Why.{why}
-use Rattle.refusals.specs.Reply.{Reply, accepted, refused, and_then}
-use Rattle.std.specs.Prelude.{if◌then◌else◌}
+use Rattle.std.specs.Prelude.{if◌then◌else◌, Result, Ok, Err}
 use Rattle.majority.specs.Table.{WellFormed}
 use Rattle.majority.specs.declared.Record.{Record}
 use Rattle.majority.proofs.Logic.{both, passed}
@@ -19,6 +17,9 @@ use Rattle.rules.specs.declared.Rule.{Rule}
 use Rattle.rules.specs.declared.Rule.TheVariants.{Share, Voter}
 use Rattle.rules.proofs.GateNodes.{GateOf}
 use Rattle.rules.proofs.Sweep.{left}
+use Rattle.refusals.specs.declared.Refusal.{Refusal}
+use Rattle.refusals.specs.declared.Refusal.TheVariants as refusal
+use Rattle.refusals.specs.Reply.{◌>>=◌}
 
 -- how many gates a step of this rule on node g leaves, of m
 abbrev pub gates_after : ℕ → ℕ → List Record → Rule → ℕ → ℕ
@@ -33,14 +34,14 @@ pub record Taken (bytes n m : ℕ) (rs : List Record) (rule : Rule) (g a b : ℕ
   pub result : rs' ≡ rewritten n rs rule g a b
 
 module _ (bytes n m : ℕ) (rs : List Record) (rule : Rule) (g a b : ℕ) (rs' : List Record) where
-  step_taken : step_by bytes n m rs rule g a b ≡ accepted rs' → Taken bytes n m rs rule g a b rs'
+  step_taken : step_by bytes n m rs rule g a b ≡ Ok rs' → Taken bytes n m rs rule g a b rs'
   unfolding step_by
   step_taken e =
-      let s8 = passed (not (fields_fit n m rule g a b)) (why 8) _ rs' e in
-      let s9 = passed (not (has_form n rs rule g a b)) (why 9) _ rs' s8.1 in
-      let s10 = passed (ltb 1024 (m + inserted n rule g)) (why 10) _ rs' s9.1 in
-      let s11 = passed (ltb bytes (8 * (length rs + inserted n rule g))) (why 11) (accepted (rewritten n rs rule g a b)) rs' s10.1 in
-      let same : accepted (rewritten n rs rule g a b) ≡ accepted rs' = s11.1 in
+      let s8 = passed (not (fields_fit n m rule g a b)) refusal.Field _ rs' e in
+      let s9 = passed (not (has_form n rs rule g a b)) refusal.Form _ rs' s8.1 in
+      let s10 = passed (ltb 1024 (m + inserted n rule g)) refusal.Gates _ rs' s9.1 in
+      let s11 = passed (ltb bytes (8 * (length rs + inserted n rule g))) refusal.Room (Ok (rewritten n rs rule g a b)) rs' s10.1 in
+      let same : Ok (rewritten n rs rule g a b) ≡ Ok rs' = s11.1 in
       record {
         fields = not-false _ s8.0;
         form = not-false _ s9.0;
@@ -49,24 +50,24 @@ module _ (bytes n m : ℕ) (rs : List Record) (rule : Rule) (g a b : ℕ) (rs' :
         result = cc;
       }
 
-  pub taken_step : Taken bytes n m rs rule g a b rs' → step_by bytes n m rs rule g a b ≡ accepted rs'
+  pub taken_step : Taken bytes n m rs rule g a b rs' → step_by bytes n m rs rule g a b ≡ Ok rs'
   unfolding step_by
   taken_step t =
-      rw (t.fields, t.form, le-ltb 1024 (m + inserted n rule g) t.few, le-ltb bytes (8 * (length rs + inserted n rule g)) t.room) (ap accepted (sym t.result))
+      rw (t.fields, t.form, le-ltb 1024 (m + inserted n rule g) t.few, le-ltb bytes (8 * (length rs + inserted n rule g)) t.room) (ap Ok (sym t.result))
 
 -- what an accepted step is, whatever its rule
 pub record Ruled (bytes n m : ℕ) (rs : List Record) (s : Step) (rs' : List Record) : Type 0 where
   pub rule : Rule
-  pub known : rule_of s.rule ≡ accepted rule
+  pub known : rule_of s.rule ≡ Ok rule
   pub taken : Taken bytes n m rs rule s.gate s.a s.b rs'
 
-pub ruled : (bytes n m : ℕ) (rs : List Record) (s : Step) (rs' : List Record) → step bytes n m rs s ≡ accepted rs' → Ruled bytes n m rs s rs'
+pub ruled : (bytes n m : ℕ) (rs : List Record) (s : Step) (rs' : List Record) → step bytes n m rs s ≡ Ok rs' → Ruled bytes n m rs s rs'
 unfolding step
 ruled bytes n m rs s rs' e = go (rule_of s.rule) refl e
   where
-    go : (r : Reply Rule) → rule_of s.rule ≡ r → and_then r (λ rule. step_by bytes n m rs rule s.gate s.a s.b) ≡ accepted rs' → Ruled bytes n m rs s rs'
-    go (accepted rule) is e = record { rule = rule; known = is; taken = step_taken bytes n m rs rule s.gate s.a s.b rs' e }
-    go (refused w) is e = let z : ◌≡◌ {A = ℕ} 0 1 = cc in absurd (omega arith)
+    go : (r : Result Rule Refusal) → rule_of s.rule ≡ r → ◌>>=◌ r (λ rule. step_by bytes n m rs rule s.gate s.a s.b) ≡ Ok rs' → Ruled bytes n m rs s rs'
+    go (Ok rule) is e = record { rule = rule; known = is; taken = step_taken bytes n m rs rule s.gate s.a s.b rs' e }
+    go (Err w) is e = let z : ◌≡◌ {A = ℕ} 0 1 = cc in absurd (omega arith)
 
 -- node g is a gate
 pub is_gate_lem : (n m g : ℕ) → is_gate n m g ≡ true → (n < g) × (g ≤ n + m)

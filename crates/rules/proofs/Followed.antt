@@ -9,8 +9,7 @@ use native.Mathlib.Nat.{add-zero}
 use native.Mathlib.Decide.{dec_lt}
 use borrow.Author.Tests.{eq-eqb, ne_eqb}
 use lib.Dec.{eqb}
-use Rattle.refusals.specs.Reply.{Reply, accepted}
-use Rattle.std.specs.Prelude.{if◌then◌else◌}
+use Rattle.std.specs.Prelude.{if◌then◌else◌, Result, Ok}
 use Rattle.majority.specs.Table.{WellFormed}
 use Rattle.majority.specs.Value.{value}
 use Rattle.majority.specs.Check.{count}
@@ -28,6 +27,7 @@ use Rattle.rules.proofs.Pair.{edge_to_node, edge_to_polarity, edge_to_value}
 use Rattle.rules.proofs.Numbered.{rule_number, number_of_inversion}
 use Rattle.rules.proofs.AcceptedStep.{ruled}
 use Rattle.rules.proofs.Steps.{step_nodes, step_blocks}
+use Rattle.refusals.specs.declared.Refusal.{Refusal}
 
 turned_back : (t v : Bool) → turned t (turned t v) ≡ v
 turned_back true v = not_twice v
@@ -65,7 +65,7 @@ odd_more t true = go (dec_lt (t % 2) 1)
     go (yes h) = rw (eq-eqb ((t + 1) % 2) 1 (omega arith), ne_eqb (t % 2) 1 (λ q. omega arith))
     go (no h) = rw (ne_eqb ((t + 1) % 2) 1 (λ q. omega arith), eq-eqb (t % 2) 1 (omega arith))
 
-module _ {n m o : ℕ} {rs : List Record} (formed : WellFormed n m o rs) (bytes : ℕ) (s : Step) (rs' : List Record) (e : step bytes n m rs s ≡ accepted rs') where
+module _ {n m o : ℕ} {rs : List Record} (formed : WellFormed n m o rs) (bytes : ℕ) (s : Step) (rs' : List Record) (e : step bytes n m rs s ≡ Ok rs') where
   abbrev moves : Moves
   moves = moves_by n rs s
 
@@ -79,7 +79,7 @@ module _ {n m o : ℕ} {rs : List Record} (formed : WellFormed n m o rs) (bytes 
       odd_more named (eqb s.rule 6 && eqb k s.gate)
       ∙ ap (λ (i : ℕ). turned (eqb i 6 && eqb k s.gate) (odd named)) (rule_number s.rule by.rule by.known)
       ∙ ap (λ (b : Bool). turned b (odd named)) (number_of_inversion n rs by.rule s.gate k)
-      ∙ ap (λ (r : Reply Rule). turned ((moves_as r n rs s.gate).inverted k) (odd named)) (sym by.known)
+      ∙ ap (λ (r : Result Rule Refusal). turned ((moves_as r n rs s.gate).inverted k) (odd named)) (sym by.known)
 
   module _ (first : List Record) (g : ℕ) where
     still_present : (k named : ℕ) → Present n m first rs g k named → moves.stays k ≡ true → Present n (count 2 rs') first rs' g (moves.place k) (named + inverts s k)

@@ -7,8 +7,7 @@ use native.Mathlib.Omega.{arith}
 use native.Mathlib.Decide.{dec_lt, ℕ_discrete}
 use borrow.Author.Tests.{eq-eqb, ne_eqb, lt-ltb, le-ltb}
 use lib.Dec.{ltb, eqb}
-use Rattle.refusals.specs.Reply.{Reply, accepted}
-use Rattle.std.specs.Prelude.{if◌then◌else◌}
+use Rattle.std.specs.Prelude.{if◌then◌else◌, Result, Ok}
 use Rattle.majority.specs.Edge.{node_of, is_inverted, flip, raised}
 use Rattle.majority.specs.declared.Record.{Record}
 use Rattle.majority.proofs.Logic.{both}
@@ -22,6 +21,7 @@ use Rattle.rules.specs.declared.Rule.{Rule}
 use Rattle.rules.specs.declared.Rule.TheVariants.{Exchange, Majority, Associativity, Outward, Inward, Inversion, Share, Sweep, Voter, Opposite}
 use Rattle.rules.proofs.Numbered.{sweep_known}
 use Rattle.rules.proofs.Raise.{raised_below, raised_from, raised_none}
+use Rattle.refusals.specs.declared.Refusal.{Refusal}
 
 -- the edge to node k in the polarity of e, and in the other
 edge_same : (e k : ℕ) → edge_to (is_inverted e) k ≡ 2 * k + e % 2
@@ -128,10 +128,10 @@ closed_edge keep e = go (ℕ_discrete e 0)
     go (no h) = moved_some (closing_up keep) e h ∙ rw (edge_same e (kept keep 0 (node_of e)))
 
 -- the edge of a followed gate after a step, by its rule
-module _ (n : ℕ) (rs : List Record) (s : Step) (rule : Rule) (known : rule_of s.rule ≡ accepted rule) (e : ℕ) where
+module _ (n : ℕ) (rs : List Record) (s : Step) (rule : Rule) (known : rule_of s.rule ≡ Ok rule) (e : ℕ) where
   pub followed_edit : is_sweep rule ≡ false → 0 < s.gate
       → followed_edge n rs s e ≡ (if ltb (node_of e) s.gate then e else if is_inversion rule && eqb (node_of e) s.gate then flip e else e + 2 * inserted n rule s.gate)
-  followed_edit other some = ap (λ (r : Reply Rule). moved_edge (moves_as r n rs s.gate) e) known ∙ edited_edge_lem (edits n rs s.gate rule other) some e
+  followed_edit other some = ap (λ (r : Result Rule Refusal). moved_edge (moves_as r n rs s.gate) e) known ∙ edited_edge_lem (edits n rs s.gate rule other) some e
 
   pub followed_sweep : is_sweep rule ≡ true → followed_edge n rs s e ≡ (if stays rs (node_of e) then renumber (stays rs) e else 0)
-  followed_sweep is = ap (λ (r : Reply Rule). moved_edge (moves_as r n rs s.gate) e) (sweep_known s.rule rule known is) ∙ closed_edge (stays rs) e
+  followed_sweep is = ap (λ (r : Result Rule Refusal). moved_edge (moves_as r n rs s.gate) e) (sweep_known s.rule rule known is) ∙ closed_edge (stays rs) e

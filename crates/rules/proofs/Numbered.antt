@@ -6,13 +6,13 @@ use mathlib.Core.List.{List}
 use native.Mathlib.Omega.{arith}
 use borrow.Author.Tests.{eqb-true}
 use lib.Dec.{eqb}
-use Rattle.std.specs.Prelude.{if◌then◌else◌}
-use Rattle.refusals.specs.Reply.{Reply, accepted}
+use Rattle.std.specs.Prelude.{if◌then◌else◌, Result, Ok}
 use Rattle.majority.specs.declared.Record.{Record}
 use Rattle.rules.specs.Kept.{moves_of}
 use Rattle.rules.specs.Step.{rule_of, is_sweep}
 use Rattle.rules.specs.declared.Rule.{Rule}
 use Rattle.rules.specs.declared.Rule.TheVariants.{Exchange, Majority, Associativity, Outward, Inward, Inversion, Share, Sweep, Voter, Opposite}
+use Rattle.refusals.specs.declared.Refusal.{Refusal}
 
 -- the number of a rule
 abbrev pub number_of : Rule → ℕ
@@ -29,14 +29,14 @@ number_of Opposite = 10
 
 module _ (k : ℕ) (rule : Rule) where
   -- where the rule is not r, which has the number tested, it is one of the rest
-  or_else : (r : Rule) (rest : Reply Rule) → (rest ≡ accepted rule → k ≡ number_of rule) → (if eqb k (number_of r) then accepted r else rest) ≡ accepted rule → k ≡ number_of rule
+  or_else : (r : Rule) (rest : Result Rule Refusal) → (rest ≡ Ok rule → k ≡ number_of rule) → (if eqb k (number_of r) then Ok r else rest) ≡ Ok rule → k ≡ number_of rule
   or_else r rest later e = go (eqb k (number_of r)) refl e
     where
-      go : (t : Bool) → eqb k (number_of r) ≡ t → (if t then accepted r else rest) ≡ accepted rule → k ≡ number_of rule
+      go : (t : Bool) → eqb k (number_of r) ≡ t → (if t then Ok r else rest) ≡ Ok rule → k ≡ number_of rule
       go true hit e = let same : r ≡ rule = cc in eqb-true k (number_of r) hit ∙ ap number_of same
       go false miss e = later e
 
-  pub rule_number : rule_of k ≡ accepted rule → k ≡ number_of rule
+  pub rule_number : rule_of k ≡ Ok rule → k ≡ number_of rule
   unfolding rule_of
   rule_number =
       or_else Exchange _
@@ -65,7 +65,7 @@ number_of_sweep Voter = refl
 number_of_sweep Opposite = refl
 
 -- and so a rule that is sweep is known to be
-pub sweep_known : (k : ℕ) (rule : Rule) → rule_of k ≡ accepted rule → is_sweep rule ≡ true → rule_of k ≡ accepted Sweep
+pub sweep_known : (k : ℕ) (rule : Rule) → rule_of k ≡ Ok rule → is_sweep rule ≡ true → rule_of k ≡ Ok Sweep
 unfolding rule_of
 sweep_known k rule known is = ap rule_of (rule_number k rule known ∙ eqb-true (number_of rule) 8 (number_of_sweep rule ∙ is))
 

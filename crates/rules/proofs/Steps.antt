@@ -9,8 +9,7 @@ use native.Mathlib.Nat.{add-zero}
 use borrow.Author.Tests.{ne_eqb}
 use lib.Dec.{eqb}
 use lib.ListN.{length}
-use Rattle.refusals.specs.Reply.{accepted}
-use Rattle.std.specs.Prelude.{if◌then◌else◌}
+use Rattle.std.specs.Prelude.{if◌then◌else◌, Ok}
 use Rattle.majority.specs.Table.{record_at, WellFormed}
 use Rattle.majority.specs.Level.{depth}
 use Rattle.majority.specs.Check.{count}
@@ -96,7 +95,7 @@ module _ {n m o : ℕ} {rs : List Record} (formed : WellFormed n m o rs) {bytes 
   taken_fits : 8 * length rs' ≤ bytes
   taken_fits = omega (arith, outcome.formed.whole, formed.whole, few_gates formed rule g, taken.room)
 
-module _ {n m o : ℕ} {rs : List Record} (formed : WellFormed n m o rs) (bytes : ℕ) (s : Step) (rs' : List Record) (e : step bytes n m rs s ≡ accepted rs') where
+module _ {n m o : ℕ} {rs : List Record} (formed : WellFormed n m o rs) (bytes : ℕ) (s : Step) (rs' : List Record) (e : step bytes n m rs s ≡ Ok rs') where
   by : Ruled bytes n m rs s rs'
   by = ruled bytes n m rs s rs' e
 
@@ -115,7 +114,7 @@ module _ {n m o : ℕ} {rs : List Record} (formed : WellFormed n m o rs) (bytes 
   pub sweep_step_depth : s.rule ≡ 8 → depth n (count 2 rs') o rs' ≡ depth n m o rs
   unfolding rule_of
   sweep_step_depth is =
-      let known : accepted Sweep ≡ accepted by.rule = sym (ap rule_of is) ∙ by.known in
+      let known : Ok Sweep ≡ Ok by.rule = sym (ap rule_of is) ∙ by.known in
       taken_depth formed by.taken (cc)
 
   -- a step of any other rule leaves the records of the nodes below its gate as they were
@@ -131,7 +130,7 @@ module _ {n m o : ℕ} {rs : List Record} (formed : WellFormed n m o rs) (bytes 
   step_fits = taken_fits formed by.taken
 
 -- the table that a step makes of an accepted one is accepted
-pub step_accepted : {n m o : ℕ} {rs : List Record} → Accepted n m o rs → (bytes : ℕ) (s : Step) (rs' : List Record) → step bytes n m rs s ≡ accepted rs'
+pub step_accepted : {n m o : ℕ} {rs : List Record} → Accepted n m o rs → (bytes : ℕ) (s : Step) (rs' : List Record) → step bytes n m rs s ≡ Ok rs'
     → Accepted n (count 2 rs') o rs'
 step_accepted was bytes s rs' e =
     let limits = was.limits in

@@ -1,5 +1,5 @@
 -- What rewriting keeps (SPEC 5.2, 5.3 and 5.6): of each node, and so of the outputs and of depth; and of its block.
-use Rattle.std.specs.Prelude.{ℕ, suc, ◌+◌, ◌≤◌, ◌<◌, ◌≡◌, Bool, true, false, not, List, eqb, if◌then◌else◌}
+use Rattle.std.specs.Prelude.{ℕ, suc, ◌+◌, ◌≤◌, ◌<◌, ◌≡◌, Bool, true, false, not, List, eqb, if◌then◌else◌, Result, Ok, Err}
 use Rattle.majority.specs.Edge.{raised}
 use Rattle.majority.specs.Table.{WellFormed}
 use Rattle.majority.specs.Value.{value, output_value}
@@ -10,8 +10,8 @@ use Rattle.rules.specs.Step.{inserted, rule_of}
 use Rattle.rules.specs.declared.Step.{Step}
 use Rattle.rules.specs.declared.Rule.{Rule}
 use Rattle.rules.specs.declared.Rule.TheVariants.{Exchange, Majority, Associativity, Outward, Inward, Inversion, Share, Sweep, Voter, Opposite}
-use Rattle.refusals.specs.Reply.{Reply, accepted, refused}
 use Rattle.majority.specs.declared.Record.{Record}
+use Rattle.refusals.specs.declared.Refusal.{Refusal}
 
 -- what becomes of the nodes of a table: whether node k stays, its number then, and whether its value is inverted. An output's record counts as a node
 pub record Moves : Type 0 where
@@ -49,9 +49,9 @@ moves_of n rs Voter g = raising g (inserted n Voter g)
 moves_of n rs Opposite g = in_place
 
 -- after a step, of the rule that has its number; one of no rule is never taken
-abbrev pub moves_as : Reply Rule → ℕ → List Record → ℕ → Moves
-moves_as (accepted rule) n rs g = moves_of n rs rule g
-moves_as (refused w) n rs g = in_place
+abbrev pub moves_as : Result Rule Refusal → ℕ → List Record → ℕ → Moves
+moves_as (Ok rule) n rs g = moves_of n rs rule g
+moves_as (Err w) n rs g = in_place
 
 abbrev pub moves_by : ℕ → List Record → Step → Moves
 moves_by n rs s = moves_as (rule_of s.rule) n rs s.gate

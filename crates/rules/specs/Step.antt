@@ -1,43 +1,37 @@
 -- One step (SPEC 5.1 and 5.4): refusals 7 to 11 in their order, or the table that the rule makes.
-use Rattle.std.specs.Prelude.{ℕ, ◌+◌, ◌-◌, ◌*◌, Bool, true, false, not, ◌&&◌, ◌||◌, List, length, ltb, leb, eqb, if◌then◌else◌}
-use Rattle.refusals.specs.Why.{why}
+use Rattle.std.specs.Prelude.{ℕ, ◌+◌, ◌-◌, ◌*◌, Bool, true, false, not, ◌&&◌, ◌||◌, List, length, ltb, leb, eqb, if◌then◌else◌, Result, Ok, Err}
 use Rattle.majority.specs.Edit.{node_record}
 use Rattle.rules.specs.Rules.{named, exchange, majority_form, majority_rule, associativity_form, associativity, outward_form, outward, inward_form, inward, inversion, share_form, share, opposite_form, opposite}
 use Rattle.rules.specs.Sweep.{sweep}
 use Rattle.rules.specs.Voter.{voter_form, voter}
-use Rattle.refusals.specs.Reply.{Reply, accepted, refused, and_then}
 use Rattle.majority.specs.declared.Record.{Record}
 use Rattle.rules.specs.declared.Step.{Step}
 use Rattle.rules.specs.declared.Rule.{Rule}
 use Rattle.rules.specs.declared.Rule.TheVariants.{Exchange, Majority, Associativity, Outward, Inward, Inversion, Share, Sweep, Voter, Opposite}
-use Rattle.rules.specs.declared.Asked.{Asked}
-use Rattle.rules.specs.declared.Asked.TheVariants.{Zero, OneOrTwo, LowerGate, LowerPair}
-use Rattle.rules.specs.declared.Named.{Named}
-use Rattle.rules.specs.declared.Named.TheVariants.{Known, Unknown}
+use Rattle.rules.specs.declared.fields.Asked.{Asked}
+use Rattle.rules.specs.declared.fields.Asked.TheVariants.{Zero, OneOrTwo, LowerGate, LowerPair}
+use Rattle.refusals.specs.declared.Refusal.{Refusal}
+use Rattle.refusals.specs.declared.Refusal.TheVariants as refusal
+use Rattle.refusals.specs.Reply.{◌>>=◌}
 
 -- the step of these four numbers
 abbrev pub step_with : ℕ → ℕ → ℕ → ℕ → Step
 step_with rule g a b = record { rule = rule; gate = g; a = a; b = b }
 
 -- the rule of a number; 7 where it is not 1 to 10
-unfoldable pub rule_of : ℕ → Reply Rule
+unfoldable pub rule_of : ℕ → Result Rule Refusal
 rule_of k =
-    if eqb k 1 then accepted Exchange
-    else if eqb k 2 then accepted Majority
-    else if eqb k 3 then accepted Associativity
-    else if eqb k 4 then accepted Outward
-    else if eqb k 5 then accepted Inward
-    else if eqb k 6 then accepted Inversion
-    else if eqb k 7 then accepted Share
-    else if eqb k 8 then accepted Sweep
-    else if eqb k 9 then accepted Voter
-    else if eqb k 10 then accepted Opposite
-    else refused (why 7)
-
--- the same for each case of the enum
-abbrev pub said_rule : Named → Reply Rule
-said_rule (Known rule) = accepted rule
-said_rule Unknown = refused (why 7)
+    if eqb k 1 then Ok Exchange
+    else if eqb k 2 then Ok Majority
+    else if eqb k 3 then Ok Associativity
+    else if eqb k 4 then Ok Outward
+    else if eqb k 5 then Ok Inward
+    else if eqb k 6 then Ok Inversion
+    else if eqb k 7 then Ok Share
+    else if eqb k 8 then Ok Sweep
+    else if eqb k 9 then Ok Voter
+    else if eqb k 10 then Ok Opposite
+    else Err refusal.Rule
 
 -- sweep, the one rule that names no gate
 abbrev pub is_sweep : Rule → Bool
@@ -166,22 +160,24 @@ voters Voter = 1
 voters Opposite = 0
 
 -- a step of a rule on a table of n inputs and m gates in a buffer of so many bytes
-unfoldable pub step_by : ℕ → ℕ → ℕ → List Record → Rule → ℕ → ℕ → ℕ → Reply (List Record)
+unfoldable pub step_by : ℕ → ℕ → ℕ → List Record → Rule → ℕ → ℕ → ℕ → Result (List Record) Refusal
 step_by bytes n m rs rule g a b =
-    if not (fields_fit n m rule g a b) then refused (why 8)
-    else if not (has_form n rs rule g a b) then refused (why 9)
-    else if ltb 1024 (m + inserted n rule g) then refused (why 10)
-    else if ltb bytes (8 * (length rs + inserted n rule g)) then refused (why 11)
-    else accepted (rewritten n rs rule g a b)
+    if not (fields_fit n m rule g a b) then Err refusal.Field
+    else if not (has_form n rs rule g a b) then Err refusal.Form
+    else if ltb 1024 (m + inserted n rule g) then Err refusal.Gates
+    else if ltb bytes (8 * (length rs + inserted n rule g)) then Err refusal.Room
+    else Ok (rewritten n rs rule g a b)
 
 -- a step, of the rule that has its number
-unfoldable pub step : ℕ → ℕ → ℕ → List Record → Step → Reply (List Record)
-step bytes n m rs s = and_then (rule_of s.rule) (λ rule. step_by bytes n m rs rule s.gate s.a s.b)
+unfoldable pub step : ℕ → ℕ → ℕ → List Record → Step → Result (List Record) Refusal
+step bytes n m rs s = do
+  rule ← rule_of s.rule
+  step_by bytes n m rs rule s.gate s.a s.b
 
 -- the same of a step, by the rule that has its number; one of no rule is never taken
-abbrev pub ruled_by : (Rule → ℕ) → Reply Rule → ℕ
-ruled_by f (accepted rule) = f rule
-ruled_by f (refused w) = 0
+abbrev pub ruled_by : (Rule → ℕ) → Result Rule Refusal → ℕ
+ruled_by f (Ok rule) = f rule
+ruled_by f (Err w) = 0
 
 abbrev pub deepens_by : Step → ℕ
 deepens_by s = ruled_by deepens (rule_of s.rule)

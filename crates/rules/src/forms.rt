@@ -9,7 +9,7 @@ use majority::{Record, flipped, inverted, node};
 pub fn plain_gate(inputs: usize, edge: u16) -> bool
     ensures { result ≡ plain_gate inputs edge }
 {
-    !inverted(edge) & (inputs < node(edge) as usize)
+    !inverted(edge) & (inputs < usize::from(node(edge)))
 }
 
 #[tactic(auto, unfolding(crate::specs::Rules::majority_form))]

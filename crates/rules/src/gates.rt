@@ -83,10 +83,9 @@ pub fn inverted_gate(r: Record) -> Record
     ensures { result ≡ edges flip r }
 {
     Record {
-        kind: r.kind,
-        block: r.block,
         e1: flipped(r.e1),
         e2: flipped(r.e2),
         e3: flipped(r.e3),
+        ..r
     }
 }

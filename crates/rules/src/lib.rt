@@ -6,7 +6,7 @@ mod forms;
 mod gates;
 
 ghost use Rattle.std.specs.Prelude.{◌≡◌};
-ghost use Rattle.rules.specs.Step.{rule_of, said_rule, is_sweep, is_inversion};
+ghost use Rattle.rules.specs.Step.{rule_of, is_sweep, is_inversion};
 
 pub use fields::{fields_fit, inserted};
 pub use forms::{
@@ -17,9 +17,10 @@ pub use gates::{
     associativity_gate, associativity_new, exchanged, inverted_gate, inward_gate, inward_new,
     outward_first, outward_gate, outward_second,
 };
+use refusals::Refusal;
 
 // A step: the number of its rule, and its three fields.
-#[derive(Clone, Copy)]
+#[derive(Clone, Copy, Debug, PartialEq, Eq)]
 pub struct Step {
     pub rule: u16,
     pub gate: u16,
@@ -28,7 +29,7 @@ pub struct Step {
 }
 
 // The rules, in the order of their numbers.
-#[derive(Clone, Copy)]
+#[derive(Clone, Copy, Debug, PartialEq, Eq)]
 pub enum Rule {
     Exchange,
     Majority,
@@ -42,74 +43,42 @@ pub enum Rule {
     Opposite,
 }
 
-// What a rule may ask of the fields a and b: a to be 0, 1 or 2, or a gate below the gate field, and b 0; or a and b to be nodes in rising order
-// below the gate field.
-#[derive(Clone, Copy)]
-pub enum Asked {
-    Zero,
-    OneOrTwo,
-    LowerGate,
-    LowerPair,
-}
-
-// The rule that has a number, if any.
-#[derive(Clone, Copy)]
-pub enum Named {
-    Known(Rule),
-    Unknown,
-}
-
+// The rule that has a number.
 #[tactic(auto, unfolding(crate::specs::Step::rule_of))]
-pub fn rule_of(number: u16) -> Named
-    ensures { said_rule result ≡ rule_of number }
-{
-    match number {
-        1 => Named::Known(Rule::Exchange),
-        2 => Named::Known(Rule::Majority),
-        3 => Named::Known(Rule::Associativity),
-        4 => Named::Known(Rule::Outward),
-        5 => Named::Known(Rule::Inward),
-        6 => Named::Known(Rule::Inversion),
-        7 => Named::Known(Rule::Share),
-        8 => Named::Known(Rule::Sweep),
-        9 => Named::Known(Rule::Voter),
-        10 => Named::Known(Rule::Opposite),
-        _ => Named::Unknown,
+impl TryFrom<u16> for Rule {
+    type Error = Refusal;
+
+    ghost try_from_gives = { λ number result. result ≡ rule_of number };
+
+    fn try_from(number: u16) -> Result<Self, Refusal> {
+        match number {
+            1 => Ok(Rule::Exchange),
+            2 => Ok(Rule::Majority),
+            3 => Ok(Rule::Associativity),
+            4 => Ok(Rule::Outward),
+            5 => Ok(Rule::Inward),
+            6 => Ok(Rule::Inversion),
+            7 => Ok(Rule::Share),
+            8 => Ok(Rule::Sweep),
+            9 => Ok(Rule::Voter),
+            10 => Ok(Rule::Opposite),
+            _ => Err(Refusal::Rule),
+        }
     }
 }
 
-// The rule is sweep, the one that names no gate.
-pub fn is_sweep(rule: Rule) -> bool
-    ensures { result ≡ is_sweep rule }
-{
-    match rule {
-        Rule::Exchange => false,
-        Rule::Majority => false,
-        Rule::Associativity => false,
-        Rule::Outward => false,
-        Rule::Inward => false,
-        Rule::Inversion => false,
-        Rule::Share => false,
-        Rule::Sweep => true,
-        Rule::Voter => false,
-        Rule::Opposite => false,
+impl Rule {
+    // The one rule that names no gate.
+    pub fn is_sweep(self) -> bool
+        ensures { result ≡ is_sweep self }
+    {
+        self == Rule::Sweep
     }
-}
 
-// The rule is inversion, the one that inverts a gate.
-pub fn is_inversion(rule: Rule) -> bool
-    ensures { result ≡ is_inversion rule }
-{
-    match rule {
-        Rule::Exchange => false,
-        Rule::Majority => false,
-        Rule::Associativity => false,
-        Rule::Outward => false,
-        Rule::Inward => false,
-        Rule::Inversion => true,
-        Rule::Share => false,
-        Rule::Sweep => false,
-        Rule::Voter => false,
-        Rule::Opposite => false,
+    // The one rule that inverts a gate.
+    pub fn is_inversion(self) -> bool
+        ensures { result ≡ is_inversion self }
+    {
+        self == Rule::Inversion
     }
 }

@@ -1,8 +1,6 @@
 -- The sheet of small tables (SPEC 8): a list of examples, each a question and the answer to it.
-use Rattle.std.specs.Prelude.{ℕ, ◌*◌, ◌/◌, List, [], ◌∷◌, ◌++◌, map, length, replicate}
-use Rattle.refusals.specs.Why.{Why, why}
+use Rattle.std.specs.Prelude.{ℕ, ◌*◌, ◌/◌, List, [], ◌∷◌, ◌++◌, map, length, replicate, Option, None, Result, Ok, Err}
 use Rattle.majority.specs.Table.{record_of, input, gate as gate_in, output}
-use Rattle.refusals.specs.Reply.{Reply, accepted, refused}
 use Rattle.translation.specs.Rm3.{operation as operation_in}
 use Rattle.majority.specs.declared.Record.{Record}
 use Rattle.majority.specs.declared.Counts.{Counts}
@@ -13,7 +11,9 @@ use Rattle.questions.specs.declared.Size.{Size}
 use Rattle.translation.specs.declared.Mode.{Mode}
 use Rattle.translation.specs.declared.Mode.TheVariants.{Anew, Once}
 use Rattle.rm3.specs.Calls.{rm3_of}
-use Rattle.rewriting.specs.Script.{Run, End, finished, script_run}
+use Rattle.rewriting.specs.Script.{Run, script_run}
+use Rattle.refusals.specs.declared.Refusal.{Refusal}
+use Rattle.refusals.specs.declared.Refusal.TheVariants as why
 
 -- what can be asked of a table
 pub data Question : Type 0 where
@@ -32,30 +32,30 @@ pub data Answer : Type 0 where
   -- accepted, with so many inputs, gates and outputs
   counts : ℕ → ℕ → ℕ → Answer
   -- refused, and why
-  refusal : Why → Answer
+  refusal : Refusal → Answer
   -- these replies, one after another
-  replies : List (Reply ℕ) → Answer
+  replies : List (Result ℕ Refusal) → Answer
   -- so many gates, and this depth
   size : ℕ → ℕ → Answer
   -- so many steps are taken and this is the end, and this table is left
-  leaves : ℕ → End → List Record → Answer
+  leaves : ℕ → Option Refusal → List Record → Answer
   -- this RM3 table
   makes : List Record → Answer
 
-abbrev pub check_answer : Reply Counts → Answer
-check_answer (accepted c) = counts c.inputs c.gates c.outputs
-check_answer (refused w) = refusal w
+abbrev pub check_answer : Result Counts Refusal → Answer
+check_answer (Ok c) = counts c.inputs c.gates c.outputs
+check_answer (Err w) = refusal w
 
-abbrev pub size_answer : Reply Size → Answer
-size_answer (accepted w) = size w.gates w.depth
-size_answer (refused w) = refusal w
+abbrev pub size_answer : Result Size Refusal → Answer
+size_answer (Ok w) = size w.gates w.depth
+size_answer (Err w) = refusal w
 
 abbrev pub run_answer : Run → Answer
 run_answer r = leaves r.taken r.end (table_of r.bytes (r.used / 8))
 
-abbrev pub rm3_answer : Reply (List Record) → Answer
-rm3_answer (accepted ts) = makes ts
-rm3_answer (refused w) = refusal w
+abbrev pub rm3_answer : Result (List Record) Refusal → Answer
+rm3_answer (Ok ts) = makes ts
+rm3_answer (Err w) = refusal w
 
 -- the answer, by the definitions
 abbrev pub answer_to : Question → Answer
@@ -79,7 +79,7 @@ whole rs = check (encode rs) (8 * length rs)
 
 -- the outputs' numbers, none refused
 abbrev pub outputs : List ℕ → Answer
-outputs vs = replies (map accepted vs)
+outputs vs = replies (map Ok vs)
 
 abbrev pub up_to3 : List ℕ
 up_to3 = 0 ∷ 1 ∷ 2 ∷ 3 ∷ []
@@ -164,31 +164,31 @@ sheet =
     ∷ evaluate P3 up_to7 ⟶ outputs (1 ∷ 1 ∷ 1 ∷ 0 ∷ 1 ∷ 0 ∷ 0 ∷ 0 ∷ [])
     ∷ translate Anew P3 ⟶ makes (input ∷ input ∷ input ∷ operation 0 3 1 ∷ operation 0 4 1 ∷ operation 5 2 6 ∷ output 7 ∷ [])
     ∷ report P4 ⟶ size 1 1
-    ∷ run P4 (on 2 2 ∷ []) ⟶ leaves 1 finished (input ∷ gate 2 2 0 ∷ output 3 ∷ [])
+    ∷ run P4 (on 2 2 ∷ []) ⟶ leaves 1 None (input ∷ gate 2 2 0 ∷ output 3 ∷ [])
     -- the gate is still there, and no output names it
     ∷ report (input ∷ gate 2 2 0 ∷ output 3 ∷ []) ⟶ size 1 0
-    ∷ run P4 (on 2 2 ∷ swept ∷ []) ⟶ leaves 2 finished (input ∷ output 3 ∷ [])
+    ∷ run P4 (on 2 2 ∷ swept ∷ []) ⟶ leaves 2 None (input ∷ output 3 ∷ [])
     ∷ translate Anew (input ∷ output 3 ∷ []) ⟶ makes (input ∷ operation 0 2 1 ∷ output 3 ∷ [])
-    ∷ run P5 (on 10 2 ∷ []) ⟶ leaves 1 finished (input ∷ gate 2 3 0 ∷ output 1 ∷ [])
-    ∷ run P6 (on 3 6 ∷ []) ⟶ leaves 1 finished (input ∷ input ∷ input ∷ input ∷ gate 6 4 8 ∷ gate 6 4 2 ∷ gate 8 4 12 ∷ output 14 ∷ [])
-    ∷ run P6 (on 3 6 ∷ swept ∷ []) ⟶ leaves 2 finished (input ∷ input ∷ input ∷ input ∷ gate 6 4 2 ∷ gate 8 4 10 ∷ output 12 ∷ [])
-    ∷ run P7 (on 4 7 ∷ []) ⟶ leaves 1 finished (input ∷ input ∷ input ∷ input ∷ input ∷ gate 6 8 10 ∷ gate 2 4 6 ∷ gate 2 4 8 ∷ gate 14 16 10 ∷ output 18 ∷ [])
+    ∷ run P5 (on 10 2 ∷ []) ⟶ leaves 1 None (input ∷ gate 2 3 0 ∷ output 1 ∷ [])
+    ∷ run P6 (on 3 6 ∷ []) ⟶ leaves 1 None (input ∷ input ∷ input ∷ input ∷ gate 6 4 8 ∷ gate 6 4 2 ∷ gate 8 4 12 ∷ output 14 ∷ [])
+    ∷ run P6 (on 3 6 ∷ swept ∷ []) ⟶ leaves 2 None (input ∷ input ∷ input ∷ input ∷ gate 6 4 2 ∷ gate 8 4 10 ∷ output 12 ∷ [])
+    ∷ run P7 (on 4 7 ∷ []) ⟶ leaves 1 None (input ∷ input ∷ input ∷ input ∷ input ∷ gate 6 8 10 ∷ gate 2 4 6 ∷ gate 2 4 8 ∷ gate 14 16 10 ∷ output 18 ∷ [])
     ∷ whole P8 ⟶ counts 3 3 2
     ∷ evaluate P8 up_to7 ⟶ outputs (0 ∷ 1 ∷ 1 ∷ 2 ∷ 1 ∷ 2 ∷ 2 ∷ 3 ∷ [])
     ∷ report P8 ⟶ size 3 2
     ∷ translate Anew P8 ⟶ makes (input ∷ input ∷ input ∷ operation 0 3 1 ∷ operation 2 5 4 ∷ operation 2 4 3 ∷ operation 7 6 4 ∷ output 8 ∷ output 6 ∷ [])
     ∷ translate Once P8 ⟶ makes (input ∷ input ∷ input ∷ operation 0 3 1 ∷ operation 2 5 4 ∷ operation 2 4 3 ∷ operation 7 6 4 ∷ output 8 ∷ output 6 ∷ [])
     -- P9: an empty table. P10: 12 bytes
-    ∷ whole [] ⟶ refusal (why 3)
-    ∷ check (replicate 12 0) 12 ⟶ refusal (why 1)
+    ∷ whole [] ⟶ refusal why.Count
+    ∷ check (replicate 12 0) 12 ⟶ refusal why.Length
     -- P11: a voter on the gate of P1 itself
-    ∷ run P1 (voting 3 1 2 ∷ []) ⟶ leaves 1 finished (input ∷ input ∷ gate 0 2 3 ∷ gate 0 2 4 ∷ gate 0 2 4 ∷ gate 6 2 4 ∷ output 12 ∷ [])
+    ∷ run P1 (voting 3 1 2 ∷ []) ⟶ leaves 1 None (input ∷ input ∷ gate 0 2 3 ∷ gate 0 2 4 ∷ gate 0 2 4 ∷ gate 6 2 4 ∷ output 12 ∷ [])
     ∷ evaluate P12 up_to3 ⟶ outputs (2 ∷ 0 ∷ 1 ∷ 1 ∷ [])
-    ∷ run P12 (voting 6 3 4 ∷ []) ⟶ leaves 1 finished P12voted
+    ∷ run P12 (voting 6 3 4 ∷ []) ⟶ leaves 1 None P12voted
     ∷ evaluate P12voted up_to3 ⟶ outputs (2 ∷ 0 ∷ 1 ∷ 1 ∷ [])
     -- under the assignment 6 inputs 1 to 4 are 0, 1, 1, 0
     ∷ evaluate P13 (6 ∷ []) ⟶ outputs (1 ∷ [])
-    ∷ run P13 (voting 9 1 2 ∷ []) ⟶ leaves 1 finished P13voted
+    ∷ run P13 (voting 9 1 2 ∷ []) ⟶ leaves 1 None P13voted
     ∷ evaluate P13voted (6 ∷ []) ⟶ outputs (1 ∷ [])
     ∷ report P13voted ⟶ size 20 4
     ∷ []

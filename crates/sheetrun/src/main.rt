@@ -3,21 +3,59 @@
 
 ghost use Rattle.std.specs.Prelude.{◌≤◌};
 
-use majority::Record;
-use program::{Called, End, Program, STDOUT_FILENO};
-use rewriting::Stepped;
+use majority::{Counts, Record};
+use program::{About, End, NO_ARGUMENT, Program, Stop};
+use refusals::Refusal;
 use rules::Step;
-use tables::Checked;
-use text::Line;
+use std::fmt;
+use std::fmt::{Display, Formatter};
 
-// An input.
-fn input() -> Record {
-    Record {
-        kind: majority::INPUT,
-        block: 0,
-        e1: 0,
-        e2: 0,
-        e3: 0,
+const ABOUT: About<'static> = About {
+    name: "sheetrun",
+    usage: "sheetrun",
+    superfluous: "it takes no argument and no input",
+    help: "Runs the limits of the sheet of small tables (docs/SPEC.md, 8).\nArguments and input: none.\nWrites a line a table: what was asked, and what the library answers.\n",
+    ..NO_ARGUMENT
+};
+
+const INPUT: Record = Record {
+    kind: majority::INPUT,
+    ..Record::BLANK
+};
+
+// The output that is false.
+const OUTPUT: Record = Record {
+    kind: majority::OUTPUT,
+    ..Record::BLANK
+};
+
+// What the check answers.
+#[derive(Clone, Copy)]
+struct Checked(Result<Counts, Refusal>);
+
+// What a step answers: the length of the table then.
+#[derive(Clone, Copy)]
+struct Stepped(Result<usize, Refusal>);
+
+impl Display for Checked {
+    fn fmt<W: fmt::Write>(&self, f: &mut Formatter<W>) -> fmt::Result {
+        match self.0 {
+            Ok(counts) => write!(
+                f,
+                "accepted, inputs {} gates {} outputs {}",
+                counts.inputs, counts.gates, counts.outputs
+            ),
+            Err(refusal) => write!(f, "{refusal}"),
+        }
+    }
+}
+
+impl Display for Stepped {
+    fn fmt<W: fmt::Write>(&self, f: &mut Formatter<W>) -> fmt::Result {
+        match self.0 {
+            Ok(length) => write!(f, "accepted, length {length}"),
+            Err(refusal) => write!(f, "{refusal}"),
+        }
     }
 }
 
@@ -25,142 +63,79 @@ fn input() -> Record {
 fn gate(edge: u16) -> Record {
     Record {
         kind: majority::GATE,
-        block: 0,
         e1: 2,
-        e2: 0,
         e3: edge,
-    }
-}
-
-// The output that is false.
-fn output() -> Record {
-    Record {
-        kind: majority::OUTPUT,
-        block: 0,
-        e1: 0,
-        e2: 0,
-        e3: 0,
-    }
-}
-
-// Puts r as each record from `from` up to `to`.
-fn fill(table: &mut [u8; program::MOST_BYTES], from: usize, to: usize, r: Record) {
-    let mut i = from;
-    while i < to {
-        tables::put_record(table, i, r);
-        i += 1;
+        ..Record::BLANK
     }
 }
 
 // Makes a table of so many inputs, so many gates that read the edge, and one output, and answers its length.
 fn make(table: &mut [u8; program::MOST_BYTES], inputs: u16, gates: u16, edge: u16) -> usize {
-    let nodes = inputs as usize + gates as usize;
-    fill(table, 0, inputs as usize, input());
-    fill(table, inputs as usize, nodes, gate(edge));
-    tables::put_record(table, nodes, output());
+    let inputs = inputs as usize;
+    let nodes = inputs + gates as usize;
+    for i in 0..inputs {
+        tables::put_record(table, i, INPUT);
+    }
+    for i in inputs..nodes {
+        tables::put_record(table, i, gate(edge));
+    }
+    tables::put_record(table, nodes, OUTPUT);
     8 * (nodes + 1)
 }
 
-// What was asked, before what is answered.
-fn asked(what: &[u8], number: u16, rest: &[u8]) -> Line {
-    Line::empty()
-        .word(what)
-        .number(number as u64)
-        .word(rest)
-        .word(b": ")
-}
-
-// What was asked, with the check's answer.
-fn checked(line: Line, table: &[u8; program::MOST_BYTES], used: usize) -> Line {
-    match tables::check(table, used) {
-        Checked::Accepted(c) => line
-            .word(b"accepted, inputs ")
-            .number(c.inputs as u64)
-            .word(b" gates ")
-            .number(c.gates as u64)
-            .word(b" outputs ")
-            .number(c.outputs as u64),
-        Checked::Refused(r) => line.refused(r),
-    }
-}
-
 // A table of inputs alone.
-fn inputs(count: u16) -> Line {
+fn inputs(program: Program<'_>, count: u16) -> Result<(), Stop> {
     let mut table = [0u8; program::MOST_BYTES];
     let used = make(&mut table, count, 0, 0);
-    checked(asked(b"inputs ", count, b""), &table, used)
+    let checked = Checked(tables::check(&table, used));
+    program.println(format_args!("inputs {count}: {checked}"))
 }
 
 // A table of two inputs and so many gates.
-fn gates(count: u16) -> Line {
+fn gates(program: Program<'_>, count: u16) -> Result<(), Stop> {
     let mut table = [0u8; program::MOST_BYTES];
     let used = make(&mut table, 2, count, 4);
-    checked(asked(b"gates ", count, b""), &table, used)
+    let checked = Checked(tables::check(&table, used));
+    program.println(format_args!("gates {count}: {checked}"))
 }
 
 // A table of two inputs and one gate, node 3, which reads the edge.
-fn gate_3(edge: u16) -> Line {
+fn gate_3(program: Program<'_>, edge: u16) -> Result<(), Stop> {
     let mut table = [0u8; program::MOST_BYTES];
     let used = make(&mut table, 2, 1, edge);
-    checked(asked(b"gate 3 reads edge ", edge, b""), &table, used)
+    let checked = Checked(tables::check(&table, used));
+    program.println(format_args!("gate 3 reads edge {edge}: {checked}"))
 }
 
-// Has the last of so many gates read the first, node 3, and takes rule 3 on it.
-fn associativity(table: &mut [u8; program::MOST_BYTES], used: usize, count: u16) -> Line
+// A table of two inputs and so many gates, the last of which reads the first, node 3; and rule 3 on the last.
+fn rule_3(program: Program<'_>, count: u16) -> Result<(), Stop>
     requires { count ≤ 1024 }
 {
-    let line = asked(b"rule 3 at ", count, b" gates");
-    tables::put_record(table, count as usize + 1, gate(6));
+    let mut table = [0u8; program::MOST_BYTES];
+    let used = make(&mut table, 2, count, 4);
+    tables::put_record(&mut table, count as usize + 1, gate(6));
     let step = Step {
         rule: 3,
         gate: count + 2,
         a: 0,
         b: 0,
     };
-    match rewriting::step(table, used, step) {
-        Stepped::Used(n) => line.word(b"accepted, length ").number(n as u64),
-        Stepped::Refused(r) => line.refused(r),
-    }
+    let stepped = Stepped(rewriting::step(&mut table, used, step));
+    program.println(format_args!("rule 3 at {count} gates: {stepped}"))
 }
 
-// A table of two inputs and so many gates, for rule 3.
-fn rule_3(count: u16) -> Line
-    requires { count ≤ 1024 }
-{
-    let mut table = [0u8; program::MOST_BYTES];
-    let used = make(&mut table, 2, count, 4);
-    associativity(&mut table, used, count)
-}
-
-// Prints a line, where all before it were written.
-fn then(program: Program<'_>, before: End, line: Line) -> End {
-    match before {
-        End::Failed => End::Failed,
-        _ => program.put(STDOUT_FILENO, line, End::Accepted),
-    }
-}
-
-fn run(program: Program<'_>) -> End {
-    let first = program.put(STDOUT_FILENO, inputs(32), End::Accepted);
-    let second = then(program, first, inputs(33));
-    let third = then(program, second, gates(1024));
-    let fourth = then(program, third, gates(1025));
-    let fifth = then(program, fourth, rule_3(1024));
-    let sixth = then(program, fifth, rule_3(1023));
-    let seventh = then(program, sixth, gate_3(6));
-    then(program, seventh, gate_3(5))
+fn answer(program: Program<'_>) -> Result<End, Stop> {
+    inputs(program, 32)?;
+    inputs(program, 33)?;
+    gates(program, 1024)?;
+    gates(program, 1025)?;
+    rule_3(program, 1024)?;
+    rule_3(program, 1023)?;
+    gate_3(program, 6)?;
+    gate_3(program, 5)?;
+    Ok(End::Accepted)
 }
 
 fn main(rt: HostRuntime) {
-    let program = Program::begun(&rt, b"sheetrun");
-    match program.called(
-        0,
-        b"",
-        b"it takes no argument and no input",
-        b"sheetrun",
-        b"Runs the limits of the sheet of small tables (docs/SPEC.md, 8).\nArguments and input: none.\nWrites a line a table: what was asked, and what the library answers.\n",
-    ) {
-        Called::Rightly => program.end(run(program)),
-        Called::Done(end) => program.end(end),
-    }
+    program::run(&rt, ABOUT, answer);
 }

@@ -8,9 +8,7 @@ use borrow.Author.Tests.{ltb-false, le-ltb, eqb-true, eq-eqb, not-false}
 use lib.Dec.{ltb, eqb}
 use lib.ListN.{length, get_or, drop, length-append, length-drop}
 use lib.Seq.{drop-cons, get_or-append-add, ext_get_or}
-use Rattle.refusals.specs.Why.{why}
-use Rattle.refusals.specs.Reply.{accepted, refused}
-use Rattle.std.specs.Prelude.{if◌then◌else◌}
+use Rattle.std.specs.Prelude.{if◌then◌else◌, Ok, Err}
 use Rattle.majority.specs.Table.{blank, record_at}
 use Rattle.majority.specs.Check.{check_records}
 use Rattle.majority.specs.declared.Record.{Record}
@@ -20,6 +18,7 @@ use Rattle.tables.specs.Field.{joined, field_at}
 use Rattle.tables.specs.Bytes.{record_in, decode, table_of, field_bytes, record_bytes, encode, holding}
 use Rattle.tables.specs.Calls.{bad_length, check_of}
 use Rattle.tables.proofs.Decoded.{length_table, table_at}
+use Rattle.refusals.specs.declared.Refusal.TheVariants as refusal
 
 -- every number of the list is a byte
 abbrev pub Bytes : List ℕ → Type 0
@@ -62,13 +61,13 @@ module _ (xs : List ℕ) (bytes : Bytes xs) where
   as_encoded n h = let e : 0 + n ≡ n = omega arith in rw e at (drop_decode n 0 (omega arith))
 
 -- a check that is accepted was not refused for the length, and accepts the records
-pub accepted_records : (xs : List ℕ) (used : ℕ) (c : Counts) → check_of xs used ≡ accepted c
-    → (used % 8 ≡ 0) × (used ≤ length xs) × (check_records (table_of xs (used / 8)) ≡ accepted c)
+pub accepted_records : (xs : List ℕ) (used : ℕ) (c : Counts) → check_of xs used ≡ Ok c
+    → (used % 8 ≡ 0) × (used ≤ length xs) × (check_records (table_of xs (used / 8)) ≡ Ok c)
 unfolding check_of
 accepted_records xs used c e = go (bad_length xs used) refl e
   where
-    go : (t : Bool) → bad_length xs used ≡ t → (if t then refused (why 1) else check_records (table_of xs (used / 8))) ≡ accepted c
-        → (used % 8 ≡ 0) × (used ≤ length xs) × (check_records (table_of xs (used / 8)) ≡ accepted c)
+    go : (t : Bool) → bad_length xs used ≡ t → (if t then Err refusal.Length else check_records (table_of xs (used / 8))) ≡ Ok c
+        → (used % 8 ≡ 0) × (used ≤ length xs) × (check_records (table_of xs (used / 8)) ≡ Ok c)
     go true q h = let z : ◌≡◌ {A = ℕ} 0 1 = cc in absurd (omega arith)
     go false q h =
         let w = neither (not (eqb (used % 8) 0)) (ltb (length xs) used) q in
@@ -80,7 +79,7 @@ unfolding check_of
 records_checked xs used whole inside = rw (eq-eqb (used % 8) 0 whole, le-ltb (length xs) used inside)
 
 -- an accepted buffer is the encoding of its table, followed by the rest
-pub accepted_encoded : (xs : List ℕ) → Bytes xs → (used : ℕ) (c : Counts) → check_of xs used ≡ accepted c → xs ≡ encode (table_of xs (used / 8)) ++ drop used xs
+pub accepted_encoded : (xs : List ℕ) → Bytes xs → (used : ℕ) (c : Counts) → check_of xs used ≡ Ok c → xs ≡ encode (table_of xs (used / 8)) ++ drop used xs
 accepted_encoded xs bytes used c e =
     let w = accepted_records xs used c e in
     let h : 8 * (used / 8) ≡ used = omega (arith, w.0) in

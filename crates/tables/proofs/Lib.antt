@@ -2,7 +2,7 @@ pub mod Decoded  -- the records that bytes hold, one by one
 pub mod Runs  -- three runs end at the first bad kind
 pub mod Faults  -- the first fault of the runs is the table's
 pub mod Sound  -- what a call knows of an accepted table
-pub mod SaidOnce  -- the check's replies are one-to-one
+pub mod Gates  -- the gates' bytes in chunks of eight
 pub mod Encoded  -- an accepted buffer is the encoding of its table, and the rest
 pub mod Written  -- whether a table that is written fits, and what the reply tells the caller
 pub mod AfterCheck  -- what a call that checks first knows and replies

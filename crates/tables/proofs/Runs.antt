@@ -9,15 +9,15 @@ use native.Mathlib.Decide.{dec_lt}
 use borrow.Author.Tests.{lt-ltb, le-ltb, eqb-true, eqb-false, not-false, not-true}
 use lib.Dec.{ltb}
 use lib.ListN.{length}
-use Rattle.refusals.specs.Why.{why_at}
 use Rattle.majority.specs.Seek.{first}
 use Rattle.majority.specs.Table.{record_at}
-use Rattle.refusals.specs.Reply.{accepted, refused}
 use Rattle.majority.specs.Check.{counts, bad_kind, kind_before, bad_kind_at, check_kinds}
 use Rattle.majority.specs.declared.Record.{Record}
 use Rattle.majority.proofs.Seek.{found_at, found_in_lem, fails_before, holds_there, nothing_there}
 use Rattle.majority.proofs.Order.{InOrder, order_good, order_counts}
 use Rattle.tables.specs.inner.Runs.{other_kind, run_end}
+use Rattle.std.specs.Prelude.{Ok, Err}
+use Rattle.refusals.specs.declared.Refusal.TheVariants as refusal
 
 -- one run
 module _ (rs : List Record) (n k from : ℕ) (inside : from ≤ n) where
@@ -111,13 +111,13 @@ module _ (rs : List Record) (n : ℕ) (all : length rs ≡ n) where
           omega arith
 
   -- the kinds decide: the first bad one, or the counts
-  kinds_stop : end < n → check_kinds rs ≡ refused (why_at 2 end)
+  kinds_stop : end < n → check_kinds rs ≡ Err (refusal.Kind end)
   unfolding check_kinds
   kinds_stop h =
       let bad : first (bad_kind_at rs) n ≡ end = found_at (bad_kind_at rs) n 0 end (omega arith) (omega arith) (λ l a b. runs_good l b) (end_bad h) in
       rw (all, bad, lt-ltb end n h)
 
-  kinds_pass : n ≤ end → check_kinds rs ≡ accepted (counts inputs (nodes - inputs) (n - nodes))
+  kinds_pass : n ≤ end → check_kinds rs ≡ Ok (counts inputs (nodes - inputs) (n - nodes))
   unfolding check_kinds
   kinds_pass h =
       let e : end ≡ n = omega (arith, end_in.1) in
@@ -136,8 +136,8 @@ module _ (rs : List Record) (n : ℕ) (all : length rs ≡ n) where
     pub runs_inside : (i ≤ j) × (j ≤ k) × (k ≤ n)
     runs_inside = rw (ei, nodes_found, end_found) (nodes_in.0, end_in.0, end_in.1)
 
-    pub runs_stop : k < n → check_kinds rs ≡ refused (why_at 2 k)
+    pub runs_stop : k < n → check_kinds rs ≡ Err (refusal.Kind k)
     runs_stop = rw end_found kinds_stop
 
-    pub runs_pass : n ≤ k → check_kinds rs ≡ accepted (counts i (j - i) (n - j))
+    pub runs_pass : n ≤ k → check_kinds rs ≡ Ok (counts i (j - i) (n - j))
     runs_pass = rw (end_found, nodes_found, ei) kinds_pass

@@ -1,12 +1,6 @@
 // The 16-bit fields of a slice of bytes, low byte first.
 ghost use Rattle.std.specs.Prelude.{◌≡◌, ◌+◌, ◌*◌, ◌<◌, length};
-ghost use Rattle.tables.specs.Field.{joined, field_at, put_bytes, put_field};
-
-fn join(low: u8, high: u8) -> u16
-    ensures { result ≡ joined low high }
-{
-    (low as u16) + 256 * (high as u16)
-}
+ghost use Rattle.tables.specs.Field.{field_at, put_bytes, put_field};
 
 // Field k.
 #[tactic(auto, unfolding(crate::specs::Field::field_at))]
@@ -14,7 +8,7 @@ pub(crate) fn get(s: &[u8], k: usize) -> u16
     requires { 2 * k + 1 < length s.now }
     ensures { result ≡ field_at s.now k }
 {
-    join(s[2 * k], s[2 * k + 1])
+    u16::from_le_bytes([s[2 * k], s[2 * k + 1]])
 }
 
 // Puts two bytes as field k.
@@ -32,5 +26,6 @@ pub(crate) fn put(s: &mut [u8], k: usize, v: u16)
     requires { 2 * k + 1 < length s.old }
     ensures { s.new ≡ put_field s.old k v }
 {
-    put_bytes(s, k, (v % 256) as u8, (v / 256) as u8);
+    let [low, high] = v.to_le_bytes();
+    put_bytes(s, k, low, high);
 }

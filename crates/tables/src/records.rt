@@ -1,7 +1,7 @@
 // The records of a slice of bytes.
 ghost use Rattle.std.specs.Prelude.{◌≡◌, ◌+◌, ◌*◌, ◌<◌, length};
 ghost use Rattle.majority.specs.Table.{record_at};
-ghost use Rattle.tables.specs.Bytes.{record_as, records_of, field_of, put_record};
+ghost use Rattle.tables.specs.Bytes.{record_as, record_in, records_of, field_of, put_record};
 
 use crate::fields::{get, put, put_bytes};
 use majority::Record;
@@ -18,6 +18,29 @@ pub(crate) fn record_as(s: &[u8], i: usize, kind: u8) -> Record
         e2: get(s, 4 * i + 2),
         e3: get(s, 4 * i + 3),
     }
+}
+
+// The record in eight bytes.
+#[tactic(auto, unfolding(crate::specs::Field::field_at))]
+pub fn read(bytes: &[u8; 8]) -> Record
+    ensures { result ≡ record_in bytes.now 0 }
+{
+    let [kind, block, a, b, c, d, e, f] = *bytes;
+    Record {
+        kind,
+        block,
+        e1: u16::from_le_bytes([a, b]),
+        e2: u16::from_le_bytes([c, d]),
+        e3: u16::from_le_bytes([e, f]),
+    }
+}
+
+// Record i, which the slice holds whole.
+pub(crate) fn read_record(s: &[u8], i: usize) -> Record
+    requires { 8 * i + 7 < length s.now }
+    ensures { result ≡ record_in s.now i }
+{
+    record_as(s, i, s[8 * i])
 }
 
 // Field d, below 4, of the eight bytes i, or 0 where the slice does not hold them whole.
@@ -40,10 +63,10 @@ pub fn field_of(s: &[u8], i: usize, d: usize) -> u16
 pub fn record_at(s: &[u8], i: usize) -> Record
     ensures { result ≡ record_at (records_of s.now) i }
 {
-    let head = field_of(s, i, 0);
+    let [kind, block] = field_of(s, i, 0).to_le_bytes();
     Record {
-        kind: (head % 256) as u8,
-        block: (head / 256) as u8,
+        kind,
+        block,
         e1: field_of(s, i, 1),
         e2: field_of(s, i, 2),
         e3: field_of(s, i, 3),

@@ -1,46 +1,45 @@
--- A word is put behind the first bytes of a room, byte for byte, as far as the room goes: what is left of the word decides.
-use Prim.Native.Nat.{ℕ, ◌+◌, ◌≤◌, ◌<◌, min, max}
-use mathlib.Core.Path.{◌≡◌}
-use mathlib.Core.List.{List, ◌++◌, append-nil}
-use native.Mathlib.Numerals.{add-one}
+-- A word is put behind the first bytes of a room, as far as the room goes.
+use Prim.Native.Nat.{ℕ, ◌+◌, ◌-◌, ◌≤◌, min, max}
+use mathlib.Core.Path.{◌≡◌, ◌∙◌, sym, ap}
+use mathlib.Core.List.{List, ◌++◌, append-nil, append_assoc}
+use native.Mathlib.Decide.{dec_le}
 use native.Mathlib.Omega.{arith}
-use lib.ListN.{length, take, drop, set, get_or, length-take, length-drop, length-set, drop_of_length-le, take-append-drop}
-use lib.Seq.{append_snoc, drop-cons, take-suc-set, take_all, take-append_seam, drop-set-lt}
+use borrow.Rule.Slice.PartMut.{put_mid}
+use lib.ListN.{length, take, drop, length-take, drop_of_length-le}
+use lib.Seq.{take_all, take-append_seam, take-append-add}
+use Rattle.std.proofs.lemmas.List.{drop-drop}
 use Rattle.text.specs.Shown.{line_of, appended}
-use Rattle.text.specs.declared.Line.{Line}
 
--- what is left of the word from byte i on is to be put behind the first `at` bytes of the room
-abbrev pub left_to_put : List ℕ → ℕ → List ℕ → ℕ → Line
-left_to_put room at word i = appended room at (drop i word)
-
-module _ (room word : List ℕ) (at i : ℕ) where
-  -- one more byte
-  pub one_more : at < length room → i < length word → left_to_put (set room at (get_or word i 0)) (at + 1) word (i + 1) ≡ left_to_put room at word i
-  unfolding appended
-  one_more h k =
-      let b = get_or word i 0 in
-      let text : take (at + 1) (set room at b) ++ drop (i + 1) word ≡ take at room ++ drop i word
-      = rw (add-one at, add-one i, take-suc-set, append_snoc, ← drop-cons word i 0) in
-      let far : at + 1 + length (drop (i + 1) word) ≡ at + length (drop i word) = simp length-drop (omega arith) in
-      let more : at < at + length (drop i word) = simp length-drop (omega arith) in
-      let rest : drop (at + length (drop i word)) (set room at b) ≡ drop (at + length (drop i word)) room = drop-set-lt _ room at b more in
-      let long : length (set room at b) ≡ length room = length-set room at b in
-      let count : max (at + 1) (min (length room) (at + length (drop i word))) ≡ max at (min (length room) (at + length (drop i word))) = omega arith in
-      rw (text, far, long, rest, count)
-
-  -- the word is at its end
-  pub at_end : length word ≤ i → left_to_put room at word i ≡ line_of room at
-  unfolding appended
-  at_end h =
-      let short : length (take at room) ≤ length room = simp length-take (omega arith) in
-      let none : at + 0 ≡ at = omega arith in
-      let count : max at (min (length room) at) ≡ at = omega arith in
-      rw (drop_of_length-le word h, append-nil, none, take_all (length room) (take at room) short, take-append-drop, count)
-
+module _ (room word : List ℕ) (len : ℕ) where
   -- the room is full
-  pub full : length room ≤ at → left_to_put room at word i ≡ line_of room at
+  pub full : length room ≤ len → line_of room len ≡ appended room len word
   unfolding appended
   full h =
-      let far : length room ≤ at + length (drop i word) = omega arith in
-      let count : max at (min (length room) (at + length (drop i word))) ≡ at = omega arith in
-      rw (take_all at room h, take-append_seam, drop_of_length-le room far, append-nil, count)
+      let far : length room ≤ len + length word = omega arith in
+      let count : max len (min (length room) (len + length word)) ≡ len = omega arith in
+      rw (take_all len room h, take-append_seam, drop_of_length-le room far, append-nil, count)
+
+  -- as many of its bytes as there is room for
+  pub some : (count k : ℕ) (put : List ℕ) → count ≡ min (length word) (length room - len) → k ≡ count → put ≡ take count word → len ≤ length room → line_of (put_mid len k room put) (len + count) ≡ appended room len word
+  unfolding appended
+  some count k put is same_k same_put h =
+      let before : length (take len room) ≡ len = simp length-take (omega arith) in
+      let whole : length (take len room) + (length room - len) ≡ length room = rw (before) (omega arith) in
+      let text : take (length room) (take len room ++ word) ≡ take len room ++ take count word
+      = ap (λ (n : ℕ). take n (take len room ++ word)) (sym whole) ∙ take-append-add (take len room) word (length room - len) ∙ ap (λ (w : List ℕ). take len room ++ w) as_far in
+      let ends : len + count ≡ max len (min (length room) (len + length word)) = omega (arith, is) in
+      rw (same_k, same_put, drop-drop count len room, text, ← behind, ends, append_assoc)
+    where
+      as_far : take (length room - len) word ≡ take count word
+      as_far = go (dec_le (length word) (length room - len))
+        where
+          go : Dec (length word ≤ length room - len) → take (length room - len) word ≡ take count word
+          go (yes f) = take_all _ word f ∙ sym (take_all count word (omega (arith, is)))
+          go (no f) = let same : length room - len ≡ count = omega (arith, is) in rw (same)
+
+      behind : drop (len + length word) room ≡ drop (len + count) room
+      behind = go (dec_le (length word) (length room - len))
+        where
+          go : Dec (length word ≤ length room - len) → drop (len + length word) room ≡ drop (len + count) room
+          go (yes f) = let same : length word ≡ count = omega (arith, is) in rw (same)
+          go (no f) = drop_of_length-le room (omega arith) ∙ sym (drop_of_length-le room (omega (arith, is)))

@@ -3,12 +3,13 @@
 
 mod spelling;
 
-ghost use Rattle.std.specs.Prelude.{◌≡◌, ◌%◌, min};
+ghost use Rattle.std.specs.Prelude.{◌≡◌, ◌%◌, min, IsOk};
 ghost use Rattle.refusals.specs.Why.{why_of};
-ghost use Rattle.text.specs.Shown.{line_of, appended, empty_line, with_word, decimal, hexadecimal, with_number, with_refusal, four_bytes};
+ghost use Rattle.text.specs.Shown.{shown, line_of, appended, empty_line, with_word, decimal, hexadecimal, with_number, with_refusal, four_bytes};
 
-use refusals::{Refusal, refusal_edge, refusal_number, refusal_record};
-pub use spelling::{Decimal, number_of};
+use refusals::Refusal;
+pub use spelling::number_of;
+use std::fmt;
 
 // The most bytes that a line holds.
 pub const WIDTH: usize = 128;
@@ -36,12 +37,9 @@ impl Line {
     pub fn word(self, word: &[u8]) -> Line
         ensures { result ≡ with_word self word.now }
     {
-        let mut bytes = self.bytes;
-        let len = put(&mut bytes, self.len, word);
-        Line {
-            bytes: bytes,
-            len: len,
-        }
+        let Line { mut bytes, len } = self;
+        let len = put(&mut bytes, len, word);
+        Line { bytes, len }
     }
 
     // The line with a number after its text, in decimal, cut where the line is full.
@@ -68,14 +66,8 @@ impl Line {
     pub fn four_bytes(self, n: usize) -> Line
         ensures { result ≡ with_word self (four_bytes n) }
     {
-        self.word(&[low(n), low(n / 256), low(n / 65536), low(n / 16777216)])
-    }
-
-    // The line with a word and a number after its text.
-    fn said(self, word: &[u8], n: u64) -> Line
-        ensures { result ≡ with_number self word.now n }
-    {
-        self.word(word).number(n)
+        let [a, b, c, d, ..] = n.to_le_bytes();
+        self.word(&[a, b, c, d])
     }
 
     // The line with a refusal after its text: its number, the record that it carries, and which edge of it.
@@ -83,9 +75,12 @@ impl Line {
     pub fn refused(self, refusal: Refusal) -> Line
         ensures { result ≡ with_refusal self (why_of refusal) }
     {
-        self.said(b"refused ", refusal_number(refusal) as u64)
-            .said(b" at ", refusal_record(refusal) as u64)
-            .said(b" ", refusal_edge(refusal) as u64)
+        self.word(b"refused ")
+            .number(refusal.number() as u64)
+            .word(b" at ")
+            .number(refusal.record() as u64)
+            .word(b" ")
+            .number(refusal.edge() as u64)
     }
 
     // The bytes, of which the first so many as `length` says are the text.
@@ -99,32 +94,39 @@ impl Line {
     pub fn length(self) -> usize
         ensures { result ≡ min self.len 128 }
     {
-        let len = self.len;
-        if len < WIDTH { len } else { WIDTH }
+        self.len.min(WIDTH)
+    }
+
+    // The text.
+    pub fn as_bytes(&self) -> &[u8]
+        ensures { result.now ≡ shown self.now }
+    {
+        &self.bytes[..self.length()]
     }
 }
 
-// The low byte.
-fn low(n: usize) -> u8
-    ensures { result ≡ n % 256 }
-{
-    (n % 256) as u8
+// Text that is written to a line stands after its text, cut where the line is full. No write fails.
+impl fmt::Write for Line {
+    ghost write_str_gives = { λ line word after. after ≡ with_word line word };
+
+    fn write_str(&mut self, word: &str) -> fmt::Result
+        ensures never_fails { IsOk result }
+        ensures ok { self.new ≡ with_word self.old word.now }
+    {
+        *self = self.word(word.as_bytes());
+        Ok(())
+    }
 }
 
 // Puts a word behind the first len bytes of a room, as far as it goes, and answers how many bytes there are then.
-#[tactic(auto, using(crate::proofs::WordPut::left_to_put, crate::proofs::WordPut::one_more, crate::proofs::WordPut::at_end, crate::proofs::WordPut::full))]
+#[tactic(auto, using(crate::proofs::WordPut::full, crate::proofs::WordPut::some))]
 fn put(room: &mut [u8], len: usize, word: &[u8]) -> usize
     ensures { line_of room.new result ≡ appended room.old len word.now }
 {
-    let mut at = len;
-    let mut i = 0;
-    while i < word.len() {
-        if room.len() <= at {
-            break;
-        }
-        room[at] = word[i];
-        at += 1;
-        i += 1;
+    if room.len() <= len {
+        return len;
     }
-    at
+    let count = word.len().min(room.len() - len);
+    room[len..len + count].copy_from_slice(&word[..count]);
+    len + count
 }

@@ -1,37 +1,30 @@
 // The numbers that texts spell.
 ghost use Rattle.std.specs.Prelude.{◌≡◌};
-ghost use Rattle.text.specs.Spelled.{spelled};
+ghost use Rattle.text.specs.Spelled.{spelled, with_byte};
 
-// What a text spells: a number below 2^32 in decimal digits, or something else.
-#[derive(Clone, Copy)]
-pub enum Decimal {
-    Number(u32),
-    Other,
+// The number with a digit behind it, where it stays below 2^32.
+#[tactic(auto, unfolding(crate::specs::Spelled::with_byte))]
+fn with_digit(value: u32, byte: u8) -> Option<u32>
+    ensures { result ≡ with_byte value byte }
+{
+    let digit = match byte {
+        b'0'..=b'9' => byte - b'0',
+        _ => return None,
+    };
+    value.checked_mul(10)?.checked_add(digit as u32)
 }
 
-// The number that a text spells: digits alone, with or without zeros in front.
-#[tactic(auto, using(crate::proofs::Digits::below, crate::proofs::Digits::above, crate::proofs::Digits::over, crate::proofs::Digits::digit, crate::proofs::Digits::at_end), unfolding(crate::specs::Spelled::spelled))]
-pub fn number_of(text: &[u8]) -> Decimal
+// The number below 2^32 that a text spells: digits alone, with or without zeros in front.
+#[tactic(auto, using(crate::proofs::Digits::no_more, crate::proofs::Digits::one_more, crate::proofs::Digits::at_end), unfolding(crate::specs::Spelled::spelled))]
+pub fn number_of(text: &[u8]) -> Option<u32>
     ensures { result ≡ spelled text.now }
 {
-    if text.len() == 0 {
-        return Decimal::Other;
+    if text.is_empty() {
+        return None;
     }
-    let mut value: u64 = 0;
-    let mut i = 0;
-    while i < text.len() {
-        let digit = text[i];
-        if digit < b'0' {
-            return Decimal::Other;
-        }
-        if b'9' < digit {
-            return Decimal::Other;
-        }
-        value = value * 10 + (digit - b'0') as u64;
-        if (u32::MAX as u64) < value {
-            return Decimal::Other;
-        }
-        i += 1;
+    let mut value = 0;
+    for byte in text {
+        value = with_digit(value, *byte)?;
     }
-    Decimal::Number(value as u32)
+    Some(value)
 }

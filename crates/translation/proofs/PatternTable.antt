@@ -8,8 +8,10 @@ use borrow.Author.Tests.{eqb-true}
 use lib.Dec.{eqb}
 use lib.ListN.{get_or}
 use Rattle.std.specs.Prelude.{if◌then◌else◌}
-use Rattle.translation.specs.Translate.{Class, constant, plain, inverted, class_of, middle, needs_helper}
+use Rattle.translation.specs.Translate.{class_of, middle, needs_helper}
 use Rattle.majority.specs.declared.Record.{Record}
+use Rattle.translation.specs.declared.Class.{Class}
+use Rattle.translation.specs.declared.Class.TheVariants.{Constant, Plain, Inverted}
 use Rattle.majority.proofs.Logic.{both}
 use Rattle.majority.proofs.Every.{every_at}
 use Rattle.translation.specs.Patterns.{class_number, pattern_by, pattern_of}
@@ -51,24 +53,18 @@ agree_true p q e =
 
 -- the class of a number
 class_at : ℕ → Class
-class_at k = if eqb k 0 then constant else if eqb k 1 then plain else inverted
+class_at k = if eqb k 0 then Constant else if eqb k 1 then Plain else Inverted
 
 class_back : (k : Class) → class_at (class_number k) ≡ k
 unfolding class_at
-class_back constant = refl
-class_back plain = refl
-class_back inverted = refl
+class_back Constant = refl
+class_back Plain = refl
+class_back Inverted = refl
 
 pub class_small : (k : Class) → class_number k < 3
-class_small constant = omega arith
-class_small plain = omega arith
-class_small inverted = omega arith
-
--- an edge that is not in the middle needs a helper where it is inverted
-pub inverted_helped : (k : Class) → eqb (class_number k) 2 ≡ needs_helper false k
-inverted_helped constant = refl
-inverted_helped plain = refl
-inverted_helped inverted = refl
+class_small Constant = omega arith
+class_small Plain = omega arith
+class_small Inverted = omega arith
 
 -- entry k packs the pattern of the classes that k numbers
 right : ℕ → ℕ → Bool

@@ -11,9 +11,11 @@ use Rattle.majority.specs.Edge.{node_of}
 use Rattle.majority.specs.Table.{input, output}
 use Rattle.majority.specs.Node.{by_kind}
 use Rattle.translation.specs.Rm3.{operation}
-use Rattle.translation.specs.Translate.{Draft, more, after, Class, constant, plain, inverted, class_of, is_constant, needs_helper, Placed, helper, place, in_order_of, gate3, nodes3, outputs3}
+use Rattle.translation.specs.Translate.{Draft, more, after, class_of, is_constant, needs_helper, Placed, helper, place, in_order_of, gate3, nodes3, outputs3}
 use Rattle.translation.specs.Count3.{helper_count, helpers_of, gate_operations, output_operations, total}
 use Rattle.majority.specs.declared.Record.{Record}
+use Rattle.translation.specs.declared.Class.{Class}
+use Rattle.translation.specs.declared.Class.TheVariants.{Constant, Plain, Inverted}
 use Rattle.translation.specs.declared.Mode.{Mode}
 use Rattle.translation.specs.declared.Mode.TheVariants.{Anew, Once}
 use Rattle.translation.proofs.Begins.{length_more}
@@ -55,11 +57,11 @@ module _ (mode : Mode) where
           else if needs_helper t k then helper mode b (node_of e) node d
           else record { operand = node; draft = d } in
           Adds mode (length d.table) (length p.draft.table) (helper_count t k)
-      go constant t = adds_none mode _
-      go plain true = helper_adds mode b (node_of e) node d
-      go plain false = adds_none mode _
-      go inverted true = adds_none mode _
-      go inverted false = helper_adds mode b (node_of e) node d
+      go Constant t = adds_none mode _
+      go Plain true = helper_adds mode b (node_of e) node d
+      go Plain false = adds_none mode _
+      go Inverted true = adds_none mode _
+      go Inverted false = helper_adds mode b (node_of e) node d
 
   gate_adds : (operands : List ℕ) (r : Record) (d : Draft) → Adds mode (length d.table) (length (gate3 mode operands r d).table) (gate_operations r)
   unfolding gate3 gate_operations helpers_of

@@ -12,10 +12,11 @@ use Rattle.majority.specs.Edge.{node_of, is_inverted}
 use Rattle.majority.specs.Table.{record_at, WellFormed}
 use Rattle.majority.specs.Level.{above, levels}
 use Rattle.translation.specs.Rm3.{operation, level3, output_level3, WellFormed3}
-use Rattle.translation.specs.Translate.{constant, plain, inverted, class_of, in_order_of, operands_of, translation, operations}
+use Rattle.translation.specs.Translate.{class_of, in_order_of, operands_of, translation, operations}
 use Rattle.translation.specs.Count3.{helper_count}
 use Rattle.translation.specs.Level3.{operand_level, edge_level, gate_level}
 use Rattle.majority.specs.declared.Record.{Record}
+use Rattle.translation.specs.declared.Class.TheVariants.{Constant, Plain, Inverted}
 use Rattle.translation.specs.declared.Mode.{Mode}
 use Rattle.majority.proofs.Levels.{above_first_second, above_second_third}
 use Rattle.translation.proofs.Rm3Worth.{false_worth, true_worth, input3_eq, operation_worth}
@@ -28,7 +29,7 @@ no_helper : (t : Bool) (e : ℕ) → is_inverted e ≡ t → helper_count t (cla
 unfolding class_of
 no_helper t e h = go (eqb (node_of e) 0) t h
   where
-    go : (c t : Bool) → is_inverted e ≡ t → helper_count t (if c then constant else if is_inverted e then inverted else plain) ≡ 0
+    go : (c t : Bool) → is_inverted e ≡ t → helper_count t (if c then Constant else if is_inverted e then Inverted else Plain) ≡ 0
     go true t h = refl
     go false true h = rw h
     go false false h = rw h

@@ -12,8 +12,9 @@ use Rattle.majority.specs.Edge.{node_of, is_inverted}
 use Rattle.majority.specs.Table.{record_at, WellFormed}
 use Rattle.majority.specs.Node.{Meaning, edge_worth, worth}
 use Rattle.translation.specs.Rm3.{operation, worth3, WellFormed3}
-use Rattle.translation.specs.Translate.{Class, is_constant, is_inverted_class, middle, in_order_of, operands_of, translation, operations}
+use Rattle.translation.specs.Translate.{is_constant, is_inverted_class, middle, in_order_of, operands_of, translation, operations}
 use Rattle.majority.specs.declared.Record.{Record}
+use Rattle.translation.specs.declared.Class.{Class}
 use Rattle.translation.specs.declared.Mode.{Mode}
 use Rattle.majority.proofs.Nodes.{node_induction, node_zero}
 use Rattle.majority.proofs.Formed.{input_eq, gate_eq}

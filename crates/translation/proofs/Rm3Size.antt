@@ -9,9 +9,11 @@ use lib.ListN.{length, take, drop, length-drop}
 use lib.Seq.{get_or-drop}
 use Rattle.std.specs.Prelude.{if◌then◌else◌}
 use Rattle.majority.specs.Table.{blank, record_at, WellFormed}
-use Rattle.translation.specs.Translate.{Class, constant, plain, inverted, class_of, needs_helper, middle, start, all_nodes3, parts3, operations}
+use Rattle.translation.specs.Translate.{class_of, needs_helper, middle, start, all_nodes3, parts3, operations}
 use Rattle.translation.specs.Count3.{helper_count, helpers_of, gate_operations, output_operations, record_operations, total}
 use Rattle.majority.specs.declared.Record.{Record}
+use Rattle.translation.specs.declared.Class.{Class}
+use Rattle.translation.specs.declared.Class.TheVariants.{Constant, Plain, Inverted}
 use Rattle.translation.specs.declared.Mode.{Mode}
 use Rattle.translation.specs.declared.Mode.TheVariants.{Anew}
 use Rattle.majority.proofs.Formed.{kind_two}
@@ -28,21 +30,21 @@ helper_most isMiddle k = go (needs_helper isMiddle k)
 -- a gate needs two helpers at most
 helpers_most : (a b c : Class) → helpers_of a b c ≤ 2
 unfolding helpers_of middle
-helpers_most inverted b c = omega (arith, helper_most false b, helper_most false c)
-helpers_most constant inverted c = omega (arith, helper_most false c)
-helpers_most plain inverted c = omega (arith, helper_most false c)
-helpers_most constant constant constant = omega arith
-helpers_most constant constant plain = omega arith
-helpers_most constant constant inverted = omega arith
-helpers_most constant plain constant = omega arith
-helpers_most constant plain plain = omega arith
-helpers_most constant plain inverted = omega arith
-helpers_most plain constant constant = omega arith
-helpers_most plain constant plain = omega arith
-helpers_most plain constant inverted = omega arith
-helpers_most plain plain constant = omega arith
-helpers_most plain plain plain = omega arith
-helpers_most plain plain inverted = omega arith
+helpers_most Inverted b c = omega (arith, helper_most false b, helper_most false c)
+helpers_most Constant Inverted c = omega (arith, helper_most false c)
+helpers_most Plain Inverted c = omega (arith, helper_most false c)
+helpers_most Constant Constant Constant = omega arith
+helpers_most Constant Constant Plain = omega arith
+helpers_most Constant Constant Inverted = omega arith
+helpers_most Constant Plain Constant = omega arith
+helpers_most Constant Plain Plain = omega arith
+helpers_most Constant Plain Inverted = omega arith
+helpers_most Plain Constant Constant = omega arith
+helpers_most Plain Constant Plain = omega arith
+helpers_most Plain Constant Inverted = omega arith
+helpers_most Plain Plain Constant = omega arith
+helpers_most Plain Plain Plain = omega arith
+helpers_most Plain Plain Inverted = omega arith
 
 pub gate_most : (r : Record) → gate_operations r ≤ 3
 unfolding gate_operations

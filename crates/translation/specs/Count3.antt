@@ -1,8 +1,9 @@
 -- How many operations a translation has at most (SPEC 6.2), told from the records alone: exactly so many where helpers are made anew.
 use Rattle.std.specs.Prelude.{ℕ, ◌+◌, Bool, false, List, [], ◌∷◌, eqb, if◌then◌else◌}
 use Rattle.majority.specs.Node.{by_kind}
-use Rattle.translation.specs.Translate.{Class, class_of, middle, needs_helper}
+use Rattle.translation.specs.Translate.{class_of, middle, needs_helper}
 use Rattle.majority.specs.declared.Record.{Record}
+use Rattle.translation.specs.declared.Class.{Class}
 
 -- how many helpers an edge of this class needs, in the middle place or another
 abbrev pub helper_count : Bool → Class → ℕ

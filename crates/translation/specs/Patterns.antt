@@ -1,7 +1,8 @@
 -- The 27 patterns of a gate's edges (SPEC 6.2), by the classes of the three.
 use Rattle.std.specs.Prelude.{ℕ, eqb}
-use Rattle.translation.specs.Translate.{Class, class_of, by_class, middle, needs_helper}
+use Rattle.translation.specs.Translate.{class_of, by_class, middle, needs_helper}
 use Rattle.majority.specs.declared.Record.{Record}
+use Rattle.translation.specs.declared.Class.{Class}
 use Rattle.translation.specs.declared.Pattern.{Pattern}
 
 -- the number of a class: constant 0, plain 1, inverted 2

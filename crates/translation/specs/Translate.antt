@@ -5,22 +5,19 @@ use Rattle.majority.specs.Table.{input, output}
 use Rattle.majority.specs.Node.{by_kind}
 use Rattle.translation.specs.Rm3.{operation}
 use Rattle.majority.specs.declared.Record.{Record}
+use Rattle.translation.specs.declared.Class.{Class}
+use Rattle.translation.specs.declared.Class.TheVariants.{Constant, Plain, Inverted}
 use Rattle.translation.specs.declared.Mode.{Mode}
 use Rattle.translation.specs.declared.Mode.TheVariants.{Anew, Once}
 
 -- an edge is constant, or plain or inverted on a node from 1 up
-pub data Class : Type 0 where
-  constant : Class
-  plain : Class
-  inverted : Class
-
 unfoldable pub class_of : ℕ → Class
-class_of e = if eqb (node_of e) 0 then constant else if is_inverted e then inverted else plain
+class_of e = if eqb (node_of e) 0 then Constant else if is_inverted e then Inverted else Plain
 
 abbrev pub by_class : {A : Type 0} → Class → A → A → A → A
-by_class constant c p i = c
-by_class plain c p i = p
-by_class inverted c p i = i
+by_class Constant c p i = c
+by_class Plain c p i = p
+by_class Inverted c p i = i
 
 abbrev pub is_constant : Class → Bool
 is_constant k = by_class k true false false

@@ -12,22 +12,46 @@ use majority::{OUTPUT, Record, inverted, node};
 // The kind of an operation's record.
 pub const OPERATION: u8 = 4;
 
-// The classes of edges.
-const CONSTANT: usize = 0;
+// An edge is constant, or plain or inverted on a node from 1 up.
+#[derive(Clone, Copy, Debug, PartialEq, Eq)]
+pub enum Class {
+    Constant,
+    Plain,
+    Inverted,
+}
 
-const PLAIN: usize = 1;
+impl Class {
+    // The class of an edge.
+    #[tactic(auto, unfolding(crate::specs::Translate::class_of))]
+    pub fn of(edge: u16) -> Class
+        ensures { result ≡ class_of edge }
+    {
+        if node(edge) == 0 {
+            return Class::Constant;
+        }
+        if inverted(edge) {
+            return Class::Inverted;
+        }
+        Class::Plain
+    }
 
-const INVERTED: usize = 2;
+    // The digit of a class in the number of a pattern.
+    pub fn number(self) -> usize
+        ensures { (result ≡ class_number self) × (result < 3) }
+    {
+        self as usize
+    }
+}
 
 // Whether a node's helper is made anew at each need, or once, at the first, and used again.
-#[derive(Clone, Copy)]
+#[derive(Clone, Copy, Debug, PartialEq, Eq)]
 pub enum Mode {
     Anew,
     Once,
 }
 
 // The middle place, counted from 1, and whether the first, second and third edge need a helper.
-#[derive(Clone, Copy)]
+#[derive(Clone, Copy, Debug, PartialEq, Eq)]
 pub struct Pattern {
     pub middle: u8,
     pub first: bool,
@@ -66,27 +90,14 @@ const PATTERNS: [u8; 27] = [
     25, // inverted, inverted, inverted
 ];
 
-#[tactic(auto, unfolding(crate::specs::Translate::class_of))]
-pub fn class(edge: u16) -> usize
-    ensures { (result ≡ class_number (class_of edge)) × (result < 3) }
-{
-    if node(edge) == 0 {
-        return CONSTANT;
-    }
-    if inverted(edge) {
-        return INVERTED;
-    }
-    PLAIN
-}
-
 // The pattern of a gate.
 #[tactic(auto, using(crate::proofs::PatternTable::pattern_at))]
 pub fn pattern_of(gate: Record) -> Pattern
     ensures { result ≡ pattern_of gate }
 {
-    let a = class(gate.e1);
-    let b = class(gate.e2);
-    let c = class(gate.e3);
+    let a = Class::of(gate.e1).number();
+    let b = Class::of(gate.e2).number();
+    let c = Class::of(gate.e3).number();
     let packed = PATTERNS[9 * a + 3 * b + c];
     Pattern {
         middle: packed % 4,
@@ -97,11 +108,10 @@ pub fn pattern_of(gate: Record) -> Pattern
 }
 
 // An output's edge needs a helper.
-#[tactic(auto, using(crate::proofs::PatternTable::inverted_helped))]
 pub fn output_helped(edge: u16) -> bool
     ensures { result ≡ needs_helper false (class_of edge) }
 {
-    class(edge) == INVERTED
+    Class::of(edge) == Class::Inverted
 }
 
 // The operation of a block.
@@ -133,20 +143,10 @@ pub fn output(operand: u16) -> Record
 pub fn in_order(block: u8, middle: u8, first: u16, second: u16, third: u16) -> Record
     ensures { result ≡ in_order_of block middle first second third }
 {
-    let mut x = first;
-    let mut y = third;
-    let mut z = second;
-    match middle {
-        1 => {
-            x = second;
-            y = first;
-            z = third;
-        }
-        2 => {
-            y = second;
-            z = third;
-        }
-        _ => {}
-    }
+    let (x, y, z) = match middle {
+        1 => (second, first, third),
+        2 => (first, second, third),
+        _ => (first, third, second),
+    };
     operation(block, x, y, z)
 }

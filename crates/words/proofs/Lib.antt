@@ -4,5 +4,3 @@ mod InputWords  -- the words of inputs
 mod OutputWords  -- an output's word
 mod Counting  -- how many numbers pass a test, by words
 mod Counted  -- a total, counted by passes
-mod Asked  -- what is known where nothing was refused
-pub mod SaidOnce  -- the replies are one-to-one

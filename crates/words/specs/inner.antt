@@ -1,3 +1,2 @@
 -- Not in the document: what contracts of private functions say, loops above all.
-pub mod Asking  -- what is asked of a table after its check
 pub mod Held  -- a list of the words of edges

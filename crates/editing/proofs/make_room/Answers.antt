@@ -7,7 +7,7 @@ use Rattle.editing.proofs.make_room.Goals as goal
 pub loop-done-init : goal.loop-done-init
 loop-done-init c = let a = c.args in
     let room = has_room _ _ _ _ (sym c.no_room.ensures ∙ c.if-no_room.false) in
-    (omega arith, omega arith, λ i. (c.slice_known-1.given i).fits, move_start a.s.now a.n a.g a.k (a.n - 0) (omega arith))
+    (omega arith, omega arith, λ i. (c.type_inv.s i).fits, move_start a.s.now a.n a.g a.k (a.n - 0) (omega arith))
 
 pub loop-done-preserved : goal.loop-done-preserved
 loop-done-preserved c = let a = c.args in
@@ -17,14 +17,14 @@ loop-done-preserved c = let a = c.args in
     let two = move_next a.s.now a.n a.g a.k room (i + 2) _ (omega arith) (omega arith) (omega arith) c.move_up-in-loop-done.ensures one in
     let three = move_next a.s.now a.n a.g a.k room (i + 1) _ (omega arith) (omega arith) (omega arith) c.move_up-in-loop-done-2.ensures two in
     let four = move_next a.s.now a.n a.g a.k room i _ (omega arith) (omega arith) (omega arith) c.move_up-in-loop-done-3.ensures three in
-    (c.loop-done.invariant.0, omega arith, λ j. (c.slice_known-in-loop-done-4-1.given j).fits, four)
+    (c.loop-done.invariant.0, omega arith, λ j. (c.type_inv.s j).fits, four)
 
 pub loop-done-2-preserved : goal.loop-done-2-preserved
 loop-done-2-preserved c = let a = c.args in
     let i = a.n - (c.loop-done-2.done + 1) in (
       c.loop-done-2.invariant.0,
       omega arith,
-      λ j. (c.slice_known-in-loop-done-2-2-1.given j).fits,
+      λ j. (c.type_inv.s j).fits,
       search rules,
       λ xs room s. move_next xs a.n a.g a.k room i _ (omega arith) (omega arith) (omega arith) c.move_up-in-loop-done-2-2.ensures (c.loop-done-2.invariant.4 xs room s),
     )

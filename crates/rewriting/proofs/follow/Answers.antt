@@ -1,61 +1,36 @@
--- `rewriting::follow` meets its contract: the check's refusal, refusal 12 or 11, or the run of its steps from the gates' own edges.
-use Rattle.std.proofs.Common.{ℕ, sym, ap, ◌∙◌, arith}
-use borrow.Author.Tests.{not-true, not-false}
-use Rattle.tables.specs.Said.{said_check}
-use Rattle.tables.proofs.Sound.{sound_accepted}
-use Rattle.tables.proofs.AfterCheck.{checked_length, checked_sound}
-use Rattle.rewriting.specs.Script.{run_of, steps_of}
-use Rattle.rewriting.specs.Through.{through_steps}
-use Rattle.rewriting.specs.Follow.{first_places, followed_places}
-use Rattle.rewriting.specs.inner.Applied.{used_by}
-use Rattle.rewriting.specs.declared.Progress.{Progress}
+-- `rewriting::follow` meets its contract: the places of the gates are followed, and those behind stay.
+use Rattle.std.proofs.Common.{◌≡◌, ℕ, suc, List, ◌++◌, length, take, drop, sym, ap, ◌∙◌, length-take-le, arith}
+use Rattle.rules.specs.Rules.{plain}
+use Rattle.tables.proofs.Sound.{sound_limits}
+use Rattle.tables.proofs.InPlaces.{places_length}
+use Rattle.rewriting.specs.Follow.{first_places}
 use Rattle.rewriting.proofs.FollowedPlaces.{places_first}
-use Rattle.rewriting.proofs.Follows.{follow_uneven, follow_lacks, follow_runs, follow_refused}
+use Rattle.rewriting.proofs.Follows.{follow_places}
 use Rattle.rewriting.proofs.follow.Goals as goal
 
-pub returns-then-uneven-clause-run : goal.returns-then-uneven-clause-run
-returns-then-uneven-clause-run c = let a = c.args in
-    let none = follow_uneven a.s.now _ _ a.places.now _ c.check.ensures _ c.in-Accepted.is (not-true _ (sym c.uneven.ensures ∙ c.if-uneven.true)) in
-    (ap (λ (p : Progress). run_of p a.s.now) c.stopped.ensures ∙ sym none.0)
-
-pub returns-then-uneven-clause-places : goal.returns-then-uneven-clause-places
-returns-then-uneven-clause-places c = let a = c.args in
-    let none = follow_uneven a.s.now _ _ a.places.now _ c.check.ensures _ c.in-Accepted.is (not-true _ (sym c.uneven.ensures ∙ c.if-uneven.true)) in
-    (sym none.1)
-
-pub returns-then-places-counts-clause-run : goal.returns-then-places-counts-clause-run
-returns-then-places-counts-clause-run c = let a = c.args in
-    let none = follow_lacks a.s.now _ _ a.places.now _ c.check.ensures _ c.in-Accepted.is (not-false _ (sym c.uneven.ensures ∙ c.if-uneven.false)) c.if-places-counts.true in
-    (ap (λ (p : Progress). run_of p a.s.now) c.stopped-then-places-counts.ensures ∙ sym none.0)
-
-pub returns-then-places-counts-clause-places : goal.returns-then-places-counts-clause-places
-returns-then-places-counts-clause-places c = let a = c.args in
-    let none = follow_lacks a.s.now _ _ a.places.now _ c.check.ensures _ c.in-Accepted.is (not-false _ (sym c.uneven.ensures ∙ c.if-uneven.false)) c.if-places-counts.true in
-    (sym none.1)
-
 pub start-requires : goal.start-requires
-start-requires c = let limits = (sound_accepted (checked_sound _ _ _ (sym c.check.ensures ∙ ap said_check c.in-Accepted.is))).limits in
-    (omega arith, c.if-places-counts.false)
+start-requires c =
+    let limits = sound_limits c.in-Ok.ensures.sound in
+    omega (arith, length-take-le c.in-Ok.counts.gates c.args.places.now c.in-Ok.ensures.room, limits.inputs, limits.gates)
 
 pub run-requires : goal.run-requires
-run-requires c = let a = c.args in
-    (checked_sound _ _ _ (sym c.check.ensures ∙ ap said_check c.in-Accepted.is), rw c.start.ensures (places_first _ _ a.places.now c.if-places-counts.false))
+run-requires c =
+    let n = c.in-Ok.counts.inputs in
+    let m = c.in-Ok.counts.gates in
+    let front = take m c.args.places.now in
+    let long : length front ≡ m = length-take-le m c.args.places.now c.in-Ok.ensures.room in
+    let first : c.start.new.places ≡ first_places n m front = c.start.ensures ∙ ap (λ (k : ℕ). first_places n k front) long in
+    let all : length c.start.new.places ≡ m = ap length first ∙ places_length (λ g e. plain g) (suc n) m front ∙ long in
+    rw (c.hold.ensures.counts, all, first) (places_first n m front (omega (arith, long)))
 
-pub returns-else-places-counts-clause-places : goal.returns-else-places-counts-clause-places
-returns-else-places-counts-clause-places c = let a = c.args in
-    let steps = steps_of a.steps.now in
-    let used = checked_length _ _ _ (sym c.check.ensures ∙ ap said_check c.in-Accepted.is) in
-    let runs = follow_runs _ _ _ a.places.now _ c.check.ensures _ c.in-Accepted.is (not-false _ (sym c.uneven.ensures ∙ c.if-uneven.false)) c.if-places-counts.false in (c.run.ensures.places
-    ∙ ap (through_steps (followed_places c.in-Accepted.counts.inputs c.in-Accepted.counts.gates) a.s.now (used_by c.in-Accepted.counts) steps) c.start.ensures
-    ∙ ap (λ (u : ℕ). through_steps (followed_places c.in-Accepted.counts.inputs c.in-Accepted.counts.gates) a.s.now u steps (first_places c.in-Accepted.counts.inputs c.in-Accepted.counts.gates a.places.now)) (sym used)
-    ∙ sym runs.1)
-
-pub returns-in-Refused-clause-run : goal.returns-in-Refused-clause-run
-returns-in-Refused-clause-run c = let a = c.args in
-    let none = follow_refused a.s.now _ _ a.places.now _ c.check.ensures _ c.in-Refused.is in
-    (ap (λ (p : Progress). run_of p a.s.now) c.stopped-in-Refused.ensures ∙ sym none.0)
-
-pub returns-in-Refused-clause-places : goal.returns-in-Refused-clause-places
-returns-in-Refused-clause-places c = let a = c.args in
-    let none = follow_refused a.s.now _ _ a.places.now _ c.check.ensures _ c.in-Refused.is in
-    (sym none.1)
+pub returns-in-Ok-clause-places : goal.returns-in-Ok-clause-places
+returns-in-Ok-clause-places c =
+    let n = c.in-Ok.counts.inputs in
+    let m = c.in-Ok.counts.gates in
+    let ps = c.args.places.now in
+    let front = take m ps in
+    let long : length front ≡ m = length-take-le m ps c.in-Ok.ensures.room in
+    let first : c.start.new.places ≡ first_places n m front = c.start.ensures ∙ ap (λ (k : ℕ). first_places n k front) long in
+    let all : length c.start.new.places ≡ m = ap length first ∙ places_length (λ g e. plain g) (suc n) m front ∙ long in
+    let run = rw (c.hold.ensures.counts, c.hold.ensures.bytes, all, first) at c.run.ensures.places in
+    ap (λ (qs : List ℕ). qs ++ drop m ps) run ∙ follow_places c.args.s.now c.args.used c.args.steps.now ps c.in-Ok.counts (sym c.ask_follow.ensures.reply ∙ c.in-Ok.is)

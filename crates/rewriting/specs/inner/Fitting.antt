@@ -2,9 +2,9 @@
 use Rattle.std.specs.Prelude.{◌≡◌, ℕ, ◌+◌, ◌-◌, ◌*◌, ◌<◌, ◌≤◌, true, List, length}
 use Rattle.rules.specs.Step.{fields_fit, has_form, inserted}
 use Rattle.rules.specs.Voter.{voter_form}
-use Rattle.rules.specs.declared.Rule.{Rule}
 use Rattle.majority.specs.declared.Counts.{Counts}
 use Rattle.tables.specs.Sound.{Sound, table_in}
+use Rattle.rewriting.specs.declared.applying.Change.{Change}
 
 -- the buffer xs has an accepted table with these counts, of which node g is a gate
 pub record AtGate (xs : List ℕ) (c : Counts) (g : ℕ) : Type 0 where
@@ -16,13 +16,13 @@ pub record AtGate (xs : List ℕ) (c : Counts) (g : ℕ) : Type 0 where
 abbrev pub Room : ℕ → List ℕ → Counts → Type 0
 Room k xs c = 8 * (c.inputs + c.gates + c.outputs + k) ≤ length xs
 
--- none of the four tests of a step by this rule refuses it
-pub record Fitting (xs : List ℕ) (c : Counts) (rule : Rule) (g a b : ℕ) : Type 0 where
+-- none of the four tests of the change h refuses it
+pub record Fitting (xs : List ℕ) (c : Counts) (h : Change) : Type 0 where
   pub sound : Sound xs c
-  pub fields : fields_fit c.inputs c.gates rule g a b ≡ true
-  pub form : has_form c.inputs (table_in xs c) rule g a b ≡ true
-  pub few : c.gates + inserted c.inputs rule g ≤ 1024
-  pub room : Room (inserted c.inputs rule g) xs c
+  pub fields : fields_fit c.inputs c.gates h.rule h.gate h.a h.b ≡ true
+  pub form : has_form c.inputs (table_in xs c) h.rule h.gate h.a h.b ≡ true
+  pub few : c.gates + inserted c.inputs h.rule h.gate ≤ 1024
+  pub room : Room (inserted c.inputs h.rule h.gate) xs c
 
 -- and so of a voter on the nodes a and b
 pub record Votable (xs : List ℕ) (c : Counts) (g a b : ℕ) : Type 0 where

@@ -1,13 +1,18 @@
 -- Bytes that a table is written to, record by record (SPEC 6.1).
 use Rattle.std.specs.Prelude.{ℕ, zero, suc, ◌+◌, ◌*◌, ◌≤◌, ◌<◌, ◌≡◌, List, [], length, get_or, take, drop}
 use Rattle.majority.specs.Table.{output, record_at}
-use Rattle.translation.specs.Translate.{Draft, Placed, parts3, operations}
+use Rattle.translation.specs.Translate.{Draft, Placed, parts3, operations, translation}
 use Rattle.majority.specs.declared.Record.{Record}
 use Rattle.majority.specs.declared.Counts.{Counts}
 use Rattle.translation.specs.declared.Mode.{Mode}
 use Rattle.tables.specs.Bytes.{record_in, put_record}
+use Rattle.tables.specs.Sound.{Table}
 use Rattle.rm3.specs.inner.Turned.{Turned, Named}
-use Rattle.rm3.specs.declared.writing.Spot.{Spot}
+use Rattle.rm3.specs.declared.writing.Writer.{Writer}
+
+-- the RM3 table of an accepted table
+abbrev pub made_of : Mode → Table → List Record
+made_of mode t = translation mode t.counts.inputs t.counts.gates t.records
 
 -- the bytes xs hold the table so far, from record 0 on, and the outputs so far, from record `first` on; past these they are the bytes ys
 pub record Laid (ys : List ℕ) (first : ℕ) (ts os : List Record) (xs : List ℕ) : Type 0 where
@@ -35,11 +40,17 @@ pub record Writes (f : Draft → Draft) (at after : ℕ) (hs hs' xs xs' : List �
   pub drafts : (d : Draft) → Drafted at hs d → Drafted after hs' (f d)
   pub grows : (d : Draft) → Drafted at hs d → Grows d.table (f d).table xs xs'
 
--- the same of an edge that gets its operand, as p makes it
-pub record Places (p : Draft → Placed) (at : ℕ) (spot : Spot) (hs hs' xs xs' : List ℕ) : Type 0 where
-  pub near : spot.at ≤ at + 1
-  pub operand : (d : Draft) → Drafted at hs d → spot.operand ≡ (p d).operand
-  pub writes : Writes (λ d. (p d).draft) at spot.at hs hs' xs xs'
+-- the same of an edge that gets the operand x, as p makes it
+pub record Places (p : Draft → Placed) (at x after : ℕ) (hs hs' xs xs' : List ℕ) : Type 0 where
+  pub near : after ≤ at + 1
+  pub operand : (d : Draft) → Drafted at hs d → x ≡ (p d).operand
+  pub writes : Writes (λ d. (p d).draft) at after hs hs' xs xs'
+
+-- a writer that goes on in its mode and its buffer
+pub record GoesOn (w w' : Writer) : Type 0 where
+  pub mode : w'.mode ≡ w.mode
+  pub lent : w'.out.ghost_name ≡ w.out.ghost_name
+  pub size : length w'.out.now ≡ length w.out.now
 
 -- the number of inputs and operations of the RM3 table
 abbrev pub operands_in : Mode → List Record → Counts → ℕ

@@ -1,25 +1,21 @@
 -- The check with counts that are claimed or with none (SPEC 3 and 7), as one function makes it for both.
-use Rattle.std.specs.Prelude.{ℕ, ◌/◌, List, if◌then◌else◌}
-use Rattle.refusals.specs.Why.{why}
-use Rattle.refusals.specs.Reply.{Reply, refused, and_then}
+use Rattle.std.specs.Prelude.{ℕ, ◌/◌, List, if◌then◌else◌, Option, unwrap_or, Result, Err}
 use Rattle.majority.specs.Check.{check_kinds}
 use Rattle.majority.specs.declared.Record.{Record}
 use Rattle.majority.specs.declared.Counts.{Counts}
-use Rattle.tables.specs.declared.checking.Claim.{Claim}
-use Rattle.tables.specs.declared.checking.Claim.TheVariants.{Any, Only}
 use Rattle.tables.specs.Bytes.{table_of}
 use Rattle.tables.specs.Calls.{bad_length}
 use Rattle.tables.specs.Claimed.{check_counted}
-
--- the counts claimed where `found` are found: with no claim they are the same
-abbrev pub claimed_of : Claim → Counts → Counts
-claimed_of Any found = found
-claimed_of (Only claim) found = claim
+use Rattle.refusals.specs.declared.Refusal.{Refusal}
+use Rattle.refusals.specs.declared.Refusal.TheVariants as refusal
+use Rattle.refusals.specs.Reply.{◌>>=◌}
 
 -- 2 to 5 of records with such a claim
-unfoldable pub check_under : Claim → List Record → Reply Counts
-check_under claim rs = and_then (check_kinds rs) (λ found. check_counted (claimed_of claim found) rs found)
+unfoldable pub check_under : Option Counts → List Record → Result Counts Refusal
+check_under claim rs = do
+  found ← check_kinds rs
+  check_counted (unwrap_or claim found) rs found
 
 -- the check of the first used bytes of xs with such a claim
-unfoldable pub check_used : List ℕ → ℕ → Claim → Reply Counts
-check_used xs used claim = if bad_length xs used then refused (why 1) else check_under claim (table_of xs (used / 8))
+unfoldable pub check_used : List ℕ → ℕ → Option Counts → Result Counts Refusal
+check_used xs used claim = if bad_length xs used then Err refusal.Length else check_under claim (table_of xs (used / 8))

@@ -6,6 +6,3 @@ use Rattle.questions.proofs.levels.set_levels.Given as goal
 
 abbrev pub invariant-loop-i : goal.invariant-loop-i
 invariant-loop-i l = levelled_by (records_of l.s) l.i (l.n - l.i) l.levels ≡ levelled_by (records_of l.s) l.first (l.n - l.first) l.initial.levels
-
-abbrev pub decreases-loop-i : goal.decreases-loop-i
-decreases-loop-i l = l.n - l.i

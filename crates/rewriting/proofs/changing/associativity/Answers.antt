@@ -4,7 +4,7 @@ use Rattle.rewriting.proofs.Gate.{at_few, at_node}
 use Rattle.rewriting.proofs.changing.associativity.Goals as goal
 
 pub records-requires : goal.records-requires
-records-requires c = at_few c.requires.0
+records-requires c = at_few c.requires.at
 
 pub plain-requires : goal.plain-requires
-plain-requires c = omega (arith, at_node c.requires.0)
+plain-requires c = omega (arith, at_node c.requires.at)

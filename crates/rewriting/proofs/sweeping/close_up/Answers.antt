@@ -1,10 +1,13 @@
 -- `sweeping::close_up` meets its contract: the gates close up, and then the outputs move down.
-use Rattle.tables.proofs.Sound.{fresh, sound_accepted}
+use Rattle.tables.proofs.Sound.{fresh, sound_limits}
 use Rattle.rewriting.proofs.MovedOutputs.{outputs_closed}
 use Rattle.rewriting.proofs.sweeping.close_up.Goals as goal
 
-pub number_inputs-requires : goal.number_inputs-requires
-number_inputs-requires c = ((sound_accepted c.requires.0).limits.inputs, fresh 0)
+pub number_inputs-requires-clause-few : goal.number_inputs-requires-clause-few
+number_inputs-requires-clause-few c = (sound_limits c.requires.sound).inputs
 
-pub returns : goal.returns
-returns c = (c.close_gates-place.ensures.place, outputs_closed c.requires.0 c.close_gates-place.ensures c.close_outputs.ensures)
+pub number_inputs-requires-clause-fresh : goal.number_inputs-requires-clause-fresh
+number_inputs-requires-clause-fresh c = fresh 0
+
+pub returns-clause-closed : goal.returns-clause-closed
+returns-clause-closed c = outputs_closed c.requires.sound c.close_gates-place.ensures c.close_outputs.ensures

@@ -1,11 +1,7 @@
--- `sweeping::mark_gates` meets its contract. The loop's invariant: the marks are those of the nodes that the records from i on reach.
-use Rattle.std.proofs.Common.{◌+◌, ◌≤◌}
-use Rattle.tables.specs.Sound.{table_in}
+-- `sweeping::mark_gates` meets its contract. The loop's invariant: the marks are those of the nodes that the records from where it stands on reach.
+use Rattle.std.proofs.Common.{◌+◌, ◌-◌}
 use Rattle.rewriting.specs.inner.Marks.{reached_by, Marked}
 use Rattle.rewriting.proofs.sweeping.mark_gates.Given as goal
 
-abbrev pub invariant-loop-i : goal.invariant-loop-i
-invariant-loop-i l = (l.counts.inputs ≤ l.i) × (l.i ≤ l.counts.inputs + l.counts.gates) × Marked (reached_by (table_in l.s l.counts) l.i) l.marks
-
-abbrev pub decreases-loop-i : goal.decreases-loop-i
-decreases-loop-i l = l.i
+abbrev pub invariant-loop-done : goal.invariant-loop-done
+invariant-loop-done l = Marked (reached_by l.table.records (l.table.counts.inputs + l.table.counts.gates - l.done)) l.marks

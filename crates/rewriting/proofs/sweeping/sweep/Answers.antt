@@ -6,15 +6,15 @@ use Rattle.rewriting.proofs.Swept.{outputs_begin, swept}
 use Rattle.rewriting.proofs.sweeping.sweep.Goals as goal
 
 pub mark_reached-requires : goal.mark_reached-requires
-mark_reached-requires c = (c.requires, fresh false)
+mark_reached-requires c = fresh false
 
 pub overflow_add-place : goal.overflow_add-place
-overflow_add-place c = let begin = outputs_begin c.requires c.close_up-place.ensures.1 _ c.close_up-place.ensures.0 in
+overflow_add-place c = let begin = outputs_begin c.requires c.close_up-place.ensures.closed _ c.close_up-place.ensures.place in
     omega (arith, c.requires.fits, left_fewer (sound_accepted c.requires).formed)
 
 pub overflow_sub-result : goal.overflow_sub-result
-overflow_sub-result c = let begin = outputs_begin c.requires c.close_up-place.ensures.1 _ c.close_up-place.ensures.0 in
+overflow_sub-result c = let begin = outputs_begin c.requires c.close_up-place.ensures.closed _ c.close_up-place.ensures.place in
     omega arith
 
 pub returns : goal.returns
-returns c = swept c.requires c.close_up-place.ensures.1 _ c.close_up-place.ensures.0 c.clear.ensures
+returns c = swept c.requires c.close_up-place.ensures.closed _ c.close_up-place.ensures.place c.clear.ensures

@@ -9,16 +9,17 @@ use Rattle.rewriting.proofs.voting.copy_gates.Goals as goal
 pub loop-done-init : goal.loop-done-init
 loop-done-init c = let v = c.args in
     let all : v.gate - 0 ≡ v.gate = omega arith in
-    (omega arith, rw all (copying_start (λ r. in_block v.block (edges (copied_by c.copying-copy.result) r)) _ _ _))
+    rw all (copying_start (λ r. in_block v.block (edges (copied_by c.new-copy.result) r)) _ _ _)
 
 pub loop-done-preserved : goal.loop-done-preserved
 loop-done-preserved c = let v = c.args in
-    let back : v.gate - (c.loop-done.done + 1) + 1 ≡ v.gate - c.loop-done.done = omega arith in
+    let place : v.gate - 1 - c.loop-done.done ≡ v.gate - (c.loop-done.done + 1) = omega arith in
+    let back : v.gate - (c.loop-done.done + 1) + 1 ≡ v.gate - c.loop-done.done = omega (arith, c.loop-done-test.true) in
     let rise : v.gate + v.before - v.inputs - 1 ≡ above v.inputs v.gate v.before = omega arith in
-    let next = copying_next (λ r. in_block v.block (edges (copied_by c.copying-copy.result) r)) v.gate (above v.inputs v.gate v.before) v.s.now c.requires.room c.loop-done.s (v.gate - (c.loop-done.done + 1)) (omega arith) (rw back c.loop-done.invariant.1) in
-    (omega arith, rw (c.put_record.ensures, c.copied_record.ensures, c.record_at-r.ensures, rise) next)
+    let next = copying_next (λ r. in_block v.block (edges (copied_by c.new-copy.result) r)) v.gate (above v.inputs v.gate v.before) v.s.now c.requires.room c.loop-done.s (v.gate - (c.loop-done.done + 1)) (omega (arith, c.loop-done-test.true)) (rw back c.loop-done.invariant) in
+    rw (c.put_record.ensures, c.«record».ensures, c.record_at-r.ensures, rise, place) next
 
 pub returns : goal.returns
 returns c = let v = c.args in
-    let down : v.gate - c.loop-done.done ≡ v.inputs = omega (arith, c.loop-done.invariant.0, c.loop-done-test.false, c.requires.some) in
-    copying_end v.inputs v.gate v.before v.from v.to v.block v.s.now c.loop-done.s (rw (down, c.copying-copy.ensures) at c.loop-done.invariant.1)
+    let down : v.gate - c.loop-done.done ≡ v.inputs = omega (arith, c.loop-done.auto.done-end, c.loop-done-test.false, c.requires.some) in
+    copying_end v.inputs v.gate v.before v.from v.to v.block v.s.now c.loop-done.s (rw (down, c.new-copy.ensures) at c.loop-done.invariant)

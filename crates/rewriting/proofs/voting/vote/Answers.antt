@@ -4,12 +4,15 @@ use Rattle.majority.specs.Table.{gate}
 use Rattle.majority.specs.declared.Record.{Record}
 use Rattle.rules.specs.Voter.{edge_to, pair_polarity, block_of, root, first_copy, second_copy, third_copy}
 use Rattle.tables.specs.Sound.{table_in}
-use Rattle.rewriting.proofs.Gate.{at_few, at_node, gate_at}
+use Rattle.rewriting.proofs.Gate.{at_few, at_node}
 use Rattle.rewriting.proofs.VoterBytes.{voting_start, third_made, second_made, first_made, found, can_copy, polarity_read, first_root, second_root, third_root, voter_holding}
 use Rattle.rewriting.proofs.voting.vote.Goals as goal
 
-pub pair_in-inverted-requires : goal.pair_in-inverted-requires
-pair_in-inverted-requires c = (omega (arith, c.requires.order, c.requires.below, at_node c.requires.at), omega (arith, c.requires.below, at_node c.requires.at))
+pub pair_in-inverted-requires-clause-a : goal.pair_in-inverted-requires-clause-a
+pair_in-inverted-requires-clause-a c = omega (arith, c.requires.order, c.requires.below, at_node c.requires.at)
+
+pub pair_in-inverted-requires-clause-b : goal.pair_in-inverted-requires-clause-b
+pair_in-inverted-requires-clause-b c = omega (arith, c.requires.below, at_node c.requires.at)
 
 pub edge_to-to_a-requires : goal.edge_to-to_a-requires
 edge_to-to_a-requires c = omega (arith, c.requires.order, c.requires.below, at_node c.requires.at)
@@ -35,19 +38,19 @@ returns c = let v = c.args in
     let to_a : c.edge_to-to_a.result ≡ edge_to (pair_polarity v.counts.inputs v.gate v.a v.b (table_in v.s.now v.counts)) v.a = c.edge_to-to_a.ensures ∙ rw polarity in
     let to_b : c.edge_to-to_b.result ≡ edge_to (pair_polarity v.counts.inputs v.gate v.a v.b (table_in v.s.now v.counts)) v.b = c.edge_to-to_b.ensures ∙ rw polarity in
     let block : c.node_record-block.result.block ≡ block_of (table_in v.s.now v.counts) v.gate =
-    ap (λ (r : Record). r.block) (c.node_record-block.ensures ∙ gate_at c.requires.at)
+    ap (λ (r : Record). r.block) c.node_record-block.ensures
     in
     let room = voting_start c.requires (rw c.records.ensures at c.make_room.ensures) in
     let three = third_made c.requires room (rw (c.pair_gate-c.ensures, to_b, block) at c.copy_gates.ensures) in
     let two = second_made c.requires three (rw (c.pair_gate-c.ensures, to_a, block) at c.copy_gates-2.ensures) in
     let one = first_made c.requires two (rw (c.edge_to-not_a.ensures, block) at c.copy_gates-3.ensures) in
-    let first : c.copied_edge-first.result ≡ root v.counts.inputs v.gate (first_copy v.counts.inputs v.gate v.a v.b (table_in v.s.now v.counts)) =
-    c.copied_edge-first.ensures ∙ rw (c.copying.ensures, c.plain-own.ensures, c.edge_to-not_a.ensures) (first_root c.requires)
+    let first : c.edge-first.result ≡ root v.counts.inputs v.gate (first_copy v.counts.inputs v.gate v.a v.b (table_in v.s.now v.counts)) =
+    c.edge-first.ensures ∙ rw (c.new.ensures, c.plain-own.ensures, c.edge_to-not_a.ensures) (first_root c.requires)
     in
-    let second : c.copied_edge-second.result ≡ root v.counts.inputs v.gate (second_copy v.counts.inputs v.gate v.a v.b (table_in v.s.now v.counts)) =
-    c.copied_edge-second.ensures ∙ rw (c.copying-2.ensures, c.plain-own.ensures, c.pair_gate-c.ensures, to_a) (second_root c.requires)
+    let second : c.edge-second.result ≡ root v.counts.inputs v.gate (second_copy v.counts.inputs v.gate v.a v.b (table_in v.s.now v.counts)) =
+    c.edge-second.ensures ∙ rw (c.new-2.ensures, c.plain-own.ensures, c.pair_gate-c.ensures, to_a) (second_root c.requires)
     in
-    let third : c.copied_edge-third.result ≡ root v.counts.inputs v.gate (third_copy v.counts.inputs v.gate v.a v.b (table_in v.s.now v.counts)) =
-    c.copied_edge-third.ensures ∙ rw (c.copying-3.ensures, c.plain-own.ensures, c.pair_gate-c.ensures, to_b) (third_root c.requires)
+    let third : c.edge-third.result ≡ root v.counts.inputs v.gate (third_copy v.counts.inputs v.gate v.a v.b (table_in v.s.now v.counts)) =
+    c.edge-third.ensures ∙ rw (c.new-3.ensures, c.plain-own.ensures, c.pair_gate-c.ensures, to_b) (third_root c.requires)
     in
     voter_holding c.requires _ _ (λ i. (c.slice_known-5-1.given i).fits) one refl (λ d. gate (block d) (first d) (second d) (third d)) c.put_record.ensures (λ i. (c.slice_known-6-1.given i).fits)

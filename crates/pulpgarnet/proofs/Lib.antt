@@ -1,1 +1,0 @@
-mod Told  -- what is said of a case of an answer is said of the answer
