@@ -61,8 +61,11 @@ module _ (x : ℕ) where
   gate_record i n e1 e2 e3 first second third whole low some =
       rw (first, second, third) (gate_behind i (n - 1 - i) low (omega (arith, network_length)) some)
 
-  pub output_record : (i n : ℕ) → n ≡ length (network_of x) → i < n → n - 1 - i ≡ 0 → output (digit x 1) ≡ record_at (network_of x) i
+  pub output_record_lem : (i : ℕ) → i ≡ gate_count x + 3 → output (digit x 1) ≡ record_at (network_of x) i
   unfolding network_of
-  output_record i n whole low last =
-      let there : i ≡ suc (suc (suc (length (gates_of x (gate_count x)) + 0))) = omega (arith, network_length, gates_length (gate_count x)) in
+  output_record_lem i e =
+      let there : i ≡ suc (suc (suc (length (gates_of x (gate_count x)) + 0))) = omega (arith, gates_length (gate_count x)) in
       rw there (sym (get_or-append-add (gates_of x (gate_count x)) (output (digit x 1) ∷ []) 0 blank))
+
+  pub output_record : (i n : ℕ) → n ≡ length (network_of x) → i < n → n - 1 - i ≡ 0 → output (digit x 1) ≡ record_at (network_of x) i
+  output_record i n whole low last = output_record_lem i (omega (arith, whole, network_length))

@@ -29,7 +29,8 @@ pub fn names(k: u16, r: Record) -> bool
     (node(r.e1) == k) | (node(r.e2) == k) | (node(r.e3) == k)
 }
 
-// Redirects a node to an edge, in the records of s from `first` on, up to n.
+// Redirects a node to an edge, in the records of s from `first` on, up to n. Not inlined, so that its loop keeps all it needs in registers.
+#[inline(never)]
 #[tactic(auto, using(crate::proofs::Loops::edit_end), unfolding(crate::specs::Edited::edited_from))]
 pub fn redirect(s: &mut [u8], first: usize, n: usize, from: u16, to: u16)
     ensures { s.new ≡ redirected_from s.old first n from to }

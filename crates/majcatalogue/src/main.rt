@@ -1,7 +1,7 @@
 // Writes the bytes of the table of the catalogue that computes the function of three inputs with the number that its argument gives.
 #![tactic(auto)]
 
-use program::{About, End, NO_ARGUMENT, Program, Stop};
+use program::{About, End, NO_ARGUMENT, Program, Stop, Work};
 
 const ABOUT: About<'static> = About {
     name: "majcatalogue",
@@ -16,14 +16,19 @@ const ABOUT: About<'static> = About {
 };
 
 // There is room for any table, so that nothing but a number that is no function's is refused.
-fn answer(program: Program<'_>) -> Result<End, Stop> {
-    let number = program.number()?;
-    let mut out = [0u8; catalogue::MOST_BYTES];
-    let length = catalogue::catalogue(number, &mut out).or(Err(Stop::Wrong))?;
-    program.write_first(length, &out)?;
-    Ok(End::Accepted)
+#[derive(Clone, Copy)]
+struct Answer;
+
+impl Work for Answer {
+    fn answer(self, program: Program<'_>) -> Result<End, Stop> {
+        let number = program.number()?;
+        let mut out = [0u8; catalogue::MOST_BYTES];
+        let length = catalogue::catalogue(number, &mut out).or(Err(Stop::Wrong))?;
+        program.write_first(length, &out)?;
+        Ok(End::Accepted)
+    }
 }
 
 fn main(rt: HostRuntime) {
-    program::run(&rt, ABOUT, answer);
+    program::run(&rt, ABOUT, Answer);
 }

@@ -1,7 +1,7 @@
 // Checks the table on standard input: prints its counts, or the refusal that it meets.
 #![tactic(auto)]
 
-use program::{About, End, NO_ARGUMENT, Program, Stop};
+use program::{About, End, NO_ARGUMENT, Program, Stop, Work};
 
 const ABOUT: About<'static> = About {
     name: "majcheck",
@@ -10,17 +10,22 @@ const ABOUT: About<'static> = About {
     ..NO_ARGUMENT
 };
 
-fn answer(program: Program<'_>) -> Result<End, Stop> {
-    let mut table = [0u8; program::MOST_BYTES];
-    let used = program.read_table(&mut table)?;
-    let counts = tables::check(&table, used)?;
-    program.println(format_args!(
-        "inputs {} gates {} outputs {}",
-        counts.inputs, counts.gates, counts.outputs
-    ))?;
-    Ok(End::Accepted)
+#[derive(Clone, Copy)]
+struct Answer;
+
+impl Work for Answer {
+    fn answer(self, program: Program<'_>) -> Result<End, Stop> {
+        let mut table = [0u8; program::MOST_BYTES];
+        let used = program.read_table(&mut table)?;
+        let counts = tables::check(&table, used)?;
+        program.println(format_args!(
+            "inputs {} gates {} outputs {}",
+            counts.inputs, counts.gates, counts.outputs
+        ))?;
+        Ok(End::Accepted)
+    }
 }
 
 fn main(rt: HostRuntime) {
-    program::run(&rt, ABOUT, answer);
+    program::run(&rt, ABOUT, Answer);
 }

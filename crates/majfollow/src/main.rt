@@ -3,7 +3,7 @@
 #![tactic(auto)]
 
 use majority::MOST_GATES;
-use program::{About, End, NO_ARGUMENT, Program, Stop};
+use program::{About, End, NO_ARGUMENT, Program, Stop, Work};
 use std::fmt;
 use std::fmt::{Display, Formatter};
 
@@ -40,26 +40,31 @@ impl Display for Followed {
     }
 }
 
-fn answer(program: Program<'_>) -> Result<End, Stop> {
-    let mut buffer = [0u8; scripts::ROOM];
-    let script = scripts::read_script(program, &mut buffer)?;
-    let mut table = [0u8; program::MOST_BYTES];
-    let used = program.read_table(&mut table)?;
-    let inputs = tables::check(&table, used).map_or(0, |counts| counts.inputs);
-    let mut places = [UNWRITTEN; MOST_GATES];
-    let progress = rewriting::follow(&mut table, used, &buffer[..script], &mut places);
-    for (i, edge) in places.iter().enumerate() {
-        if *edge == UNWRITTEN {
-            break;
+#[derive(Clone, Copy)]
+struct Answer;
+
+impl Work for Answer {
+    fn answer(self, program: Program<'_>) -> Result<End, Stop> {
+        let mut buffer = [0u8; scripts::ROOM];
+        let script = scripts::read_script(program, &mut buffer)?;
+        let mut table = [0u8; program::MOST_BYTES];
+        let used = program.read_table(&mut table)?;
+        let inputs = tables::check(&table, used).map_or(0, |counts| counts.inputs);
+        let mut places = [UNWRITTEN; MOST_GATES];
+        let progress = rewriting::follow(&mut table, used, &buffer[..script], &mut places);
+        for (i, edge) in places.iter().enumerate() {
+            if *edge == UNWRITTEN {
+                break;
+            }
+            program.println(Followed {
+                gate: inputs + i + 1,
+                edge: *edge,
+            })?;
         }
-        program.println(Followed {
-            gate: inputs + i + 1,
-            edge: *edge,
-        })?;
+        scripts::reply(program, progress)
     }
-    scripts::reply(program, progress)
 }
 
 fn main(rt: HostRuntime) {
-    program::run(&rt, ABOUT, answer);
+    program::run(&rt, ABOUT, Answer);
 }

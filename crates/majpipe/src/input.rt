@@ -1,4 +1,6 @@
 // What a request is read by. Nothing here reads a byte past the one that is asked for.
+ghost use Rattle.std.specs.Prelude.{◌≤◌, length, IfOk};
+
 use crate::operation::Operation;
 use majority::Counts;
 use program::{Program, Stop, read_whole};
@@ -50,20 +52,16 @@ pub fn read_number(program: Program<'_>) -> Result<u32, Fault> {
     Ok(u32::from_le_bytes(bytes))
 }
 
-// Two bytes, the low one first.
-fn read_short(program: Program<'_>) -> Result<u16, Fault> {
-    let mut bytes = [0u8; 2];
-    fill(program, &mut bytes)?;
-    Ok(u16::from_le_bytes(bytes))
-}
-
-// The four numbers of a step.
+// The four numbers of a step, of two bytes each, the low one first.
 pub fn read_step(program: Program<'_>) -> Result<Step, Fault> {
+    let mut bytes = [0u8; 8];
+    fill(program, &mut bytes)?;
+    let [r, rule, g, gate, x, a, y, b] = bytes;
     Ok(Step {
-        rule: read_short(program)?,
-        gate: read_short(program)?,
-        a: read_short(program)?,
-        b: read_short(program)?,
+        rule: u16::from_le_bytes([r, rule]),
+        gate: u16::from_le_bytes([g, gate]),
+        a: u16::from_le_bytes([x, a]),
+        b: u16::from_le_bytes([y, b]),
     })
 }
 
@@ -77,7 +75,9 @@ pub fn read_counts(program: Program<'_>) -> Result<Counts, Fault> {
 }
 
 // A length, and then so many bytes, which go to the start of the buffer. A part may be as long as the buffer.
-pub fn read_part<'a>(program: Program<'_>, buffer: &'a mut [u8]) -> Result<&'a mut [u8], Fault> {
+pub fn read_part<'a>(program: Program<'_>, buffer: &'a mut [u8]) -> Result<&'a mut [u8], Fault>
+    ensures { IfOk result (λ part. length part.now ≤ length buffer.old) }
+{
     let length = read_number(program)?;
     let part = buffer
         .get_mut(..length as usize)

@@ -7,7 +7,7 @@ mod places;
 mod reply;
 
 use input::{Fault, read_operation};
-use program::{About, End, NO_ARGUMENT, Program, Stop};
+use program::{About, End, NO_ARGUMENT, Program, Stop, Work};
 
 const ABOUT: About<'static> = About {
     name: "majpipe",
@@ -45,10 +45,15 @@ fn say(program: Program<'_>, fault: Fault) -> Result<End, Stop> {
     }
 }
 
-fn answer(program: Program<'_>) -> Result<End, Stop> {
-    serve(program).or_else(|fault| say(program, fault))
+#[derive(Clone, Copy)]
+struct Answer;
+
+impl Work for Answer {
+    fn answer(self, program: Program<'_>) -> Result<End, Stop> {
+        serve(program).or_else(|fault| say(program, fault))
+    }
 }
 
 fn main(rt: HostRuntime) {
-    program::run(&rt, ABOUT, answer);
+    program::run(&rt, ABOUT, Answer);
 }

@@ -90,16 +90,20 @@ fn step(program: Program<'_>, buffer: &mut [u8]) -> Result<(), Fault> {
     Reply::from(rewriting::step(table, used, step)).write_with(program, table)
 }
 
+// What has room for a part or for places is not inlined, so that the stack holds the room of one operation at a time; and the room comes first, since
+// what follows a `?` would be cleared twice.
+#[inline(never)]
 fn script(program: Program<'_>, buffer: &mut [u8]) -> Result<(), Fault> {
-    let (used, table) = read_table(program, buffer)?;
     let mut room = io::large_buffer();
+    let (used, table) = read_table(program, buffer)?;
     let steps = read_part(program, &mut room)?;
     Reply::from(rewriting::script(table, used, steps)).write_with(program, table)
 }
 
+#[inline(never)]
 fn translate(program: Program<'_>, mode: Mode, buffer: &mut [u8]) -> Result<(), Fault> {
-    let (used, table) = read_table(program, buffer)?;
     let mut room = io::large_buffer();
+    let (used, table) = read_table(program, buffer)?;
     let out = read_part(program, &mut room)?;
     Reply::from(rm3::translate(mode, table, used, out)).write_with(program, out)
 }
@@ -129,16 +133,18 @@ fn totals(program: Program<'_>, buffer: &mut [u8]) -> Result<(), Fault> {
 }
 
 // Reads the places, and replies how many are put, and then each place.
+#[inline(never)]
 fn place<F: FnOnce(&mut [u64]) -> Result<usize, Refusal> + Drop>(
     program: Program<'_>,
     put: F,
 ) -> Result<(), Fault>
     requires { F.IsAlwaysCallable put }
 {
+    let mut numbers = [[0u8; 8]; MOST_PLACES];
     let mut room = [0u64; MOST_PLACES];
-    let places = read_places(program, &mut room)?;
+    let places = read_places(program, &mut numbers, &mut room)?;
     Reply::from(put(places)).write(program)?;
-    write_places(program, places)
+    write_places(program, &mut numbers, places)
 }
 
 fn catalogue(program: Program<'_>, buffer: &mut [u8]) -> Result<(), Fault> {
@@ -147,12 +153,14 @@ fn catalogue(program: Program<'_>, buffer: &mut [u8]) -> Result<(), Fault> {
     Reply::from(catalogue::catalogue(number, out)).write_with(program, out)
 }
 
+#[inline(never)]
 fn follow(program: Program<'_>, buffer: &mut [u8]) -> Result<(), Fault> {
-    let (used, table) = read_table(program, buffer)?;
     let mut room = io::large_buffer();
+    let mut numbers = [[0u8; 2]; MOST_PLACES];
+    let mut followed = [0u16; MOST_PLACES];
+    let (used, table) = read_table(program, buffer)?;
     let steps = read_part(program, &mut room)?;
-    let mut room = [0u16; MOST_PLACES];
-    let places = read_places(program, &mut room)?;
+    let places = read_places(program, &mut numbers, &mut followed)?;
     Reply::from(rewriting::follow(table, used, steps, places)).write_with(program, table)?;
-    write_places(program, places)
+    write_places(program, &mut numbers, places)
 }

@@ -35,16 +35,16 @@ impl Place<8> for u64 {
     }
 }
 
-// A count, and then so many numbers, which go to the first places.
+// A count, and then so many numbers, which go to the first places by way of their bytes.
 pub(crate) fn read_places<'a, const WIDTH: usize, P: Place<WIDTH>>(
     program: Program<'_>,
+    numbers: &mut [[u8; WIDTH]; MOST_PLACES],
     places: &'a mut [P; MOST_PLACES],
 ) -> Result<&'a mut [P], Fault>
     requires { (0 < WIDTH) × (WIDTH ≤ 8) }
     ensures { IfOk result (λ part. length part.now ≤ 8192) }
 {
     let count = read_number(program)?;
-    let mut numbers = [[0u8; WIDTH]; MOST_PLACES];
     let places = places
         .get_mut(..count as usize)
         .ok_or(Fault::TooMany(count))?;
@@ -56,14 +56,14 @@ pub(crate) fn read_places<'a, const WIDTH: usize, P: Place<WIDTH>>(
     Ok(places)
 }
 
-// Writes each place.
+// Writes each place, by way of their bytes.
 pub(crate) fn write_places<const WIDTH: usize, P: Place<WIDTH>>(
     program: Program<'_>,
+    numbers: &mut [[u8; WIDTH]; MOST_PLACES],
     places: &[P],
 ) -> Result<(), Fault>
     requires { (0 < WIDTH) × (WIDTH ≤ 8) × (length places.now ≤ 8192) }
 {
-    let mut numbers = [[0u8; WIDTH]; MOST_PLACES];
     let numbers = &mut numbers[..places.len()];
     for (number, place) in numbers.iter_mut().zip(places) {
         *number = place.bytes();

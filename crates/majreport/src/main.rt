@@ -1,7 +1,7 @@
 // Reports on the table on standard input: prints its size and its depth, or the refusal that it meets.
 #![tactic(auto)]
 
-use program::{About, End, NO_ARGUMENT, Program, Stop};
+use program::{About, End, NO_ARGUMENT, Program, Stop, Work};
 
 const ABOUT: About<'static> = About {
     name: "majreport",
@@ -10,14 +10,19 @@ const ABOUT: About<'static> = About {
     ..NO_ARGUMENT
 };
 
-fn answer(program: Program<'_>) -> Result<End, Stop> {
-    let mut table = [0u8; program::MOST_BYTES];
-    let used = program.read_table(&mut table)?;
-    let size = questions::report(&table, used)?;
-    program.println(format_args!("size {} depth {}", size.gates, size.depth))?;
-    Ok(End::Accepted)
+#[derive(Clone, Copy)]
+struct Answer;
+
+impl Work for Answer {
+    fn answer(self, program: Program<'_>) -> Result<End, Stop> {
+        let mut table = [0u8; program::MOST_BYTES];
+        let used = program.read_table(&mut table)?;
+        let size = questions::report(&table, used)?;
+        program.println(format_args!("size {} depth {}", size.gates, size.depth))?;
+        Ok(End::Accepted)
+    }
 }
 
 fn main(rt: HostRuntime) {
-    program::run(&rt, ABOUT, answer);
+    program::run(&rt, ABOUT, Answer);
 }

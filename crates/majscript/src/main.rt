@@ -2,7 +2,7 @@
 // standard output, and what the script replied to standard error.
 #![tactic(auto)]
 
-use program::{About, End, NO_ARGUMENT, Program, Stop, Stream};
+use program::{About, End, NO_ARGUMENT, Program, Stop, Stream, Work};
 
 const ABOUT: About<'static> = About {
     name: "majscript",
@@ -17,16 +17,21 @@ const ABOUT: About<'static> = About {
     ..NO_ARGUMENT
 };
 
-fn answer(program: Program<'_>) -> Result<End, Stop> {
-    let mut buffer = [0u8; scripts::ROOM];
-    let script = scripts::read_script(program, &mut buffer)?;
-    let mut table = [0u8; program::MOST_BYTES];
-    let used = program.read_table(&mut table)?;
-    let progress = rewriting::script(&mut table, used, &buffer[..script]);
-    program.write_first(progress.used, &table)?;
-    scripts::reply(program, progress)
+#[derive(Clone, Copy)]
+struct Answer;
+
+impl Work for Answer {
+    fn answer(self, program: Program<'_>) -> Result<End, Stop> {
+        let mut buffer = [0u8; scripts::ROOM];
+        let script = scripts::read_script(program, &mut buffer)?;
+        let mut table = [0u8; program::MOST_BYTES];
+        let used = program.read_table(&mut table)?;
+        let progress = rewriting::script(&mut table, used, &buffer[..script]);
+        program.write_first(progress.used, &table)?;
+        scripts::reply(program, progress)
+    }
 }
 
 fn main(rt: HostRuntime) {
-    program::run(&rt, ABOUT, answer);
+    program::run(&rt, ABOUT, Answer);
 }

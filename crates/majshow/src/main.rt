@@ -2,7 +2,7 @@
 #![tactic(auto)]
 
 use majority::Record;
-use program::{About, End, NO_ARGUMENT, Program, Stop};
+use program::{About, End, NO_ARGUMENT, Program, Stop, Work};
 use std::fmt;
 use std::fmt::{Display, Formatter};
 
@@ -88,22 +88,27 @@ impl Display for Shown {
     }
 }
 
-fn answer(program: Program<'_>) -> Result<End, Stop> {
-    let mut table = [0u8; program::MOST_BYTES];
-    let used = program.read_table(&mut table)?;
-    let counts = tables::check(&table, used)?;
-    for i in 0..used / 8 {
-        program.println(Shown {
-            record: tables::record_at(&table, i),
-            node: Node {
-                number: i + 1,
-                inputs: counts.inputs,
-            },
-        })?;
+#[derive(Clone, Copy)]
+struct Answer;
+
+impl Work for Answer {
+    fn answer(self, program: Program<'_>) -> Result<End, Stop> {
+        let mut table = [0u8; program::MOST_BYTES];
+        let used = program.read_table(&mut table)?;
+        let counts = tables::check(&table, used)?;
+        for i in 0..used / 8 {
+            program.println(Shown {
+                record: tables::record_at(&table, i),
+                node: Node {
+                    number: i + 1,
+                    inputs: counts.inputs,
+                },
+            })?;
+        }
+        Ok(End::Accepted)
     }
-    Ok(End::Accepted)
 }
 
 fn main(rt: HostRuntime) {
-    program::run(&rt, ABOUT, answer);
+    program::run(&rt, ABOUT, Answer);
 }

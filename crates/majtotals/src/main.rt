@@ -2,7 +2,7 @@
 #![tactic(auto)]
 
 use majority::MOST_OUTPUTS;
-use program::{About, End, NO_ARGUMENT, Program, Stop};
+use program::{About, End, NO_ARGUMENT, Program, Stop, Work};
 use tables::SoundTable;
 
 const ABOUT: About<'static> = About {
@@ -12,19 +12,24 @@ const ABOUT: About<'static> = About {
     ..NO_ARGUMENT
 };
 
-fn answer(program: Program<'_>) -> Result<End, Stop> {
-    let mut table = [0u8; program::MOST_BYTES];
-    let used = program.read_table(&mut table)?;
-    let inputs = SoundTable::checked(&table, used)?.counts().inputs;
-    let mut totals = [0u64; MOST_OUTPUTS];
-    let outputs = words::totals(&table, used, &mut totals)?;
-    let assignments = 1u64 << inputs;
-    for (j, total) in totals.iter().take(outputs).enumerate() {
-        program.println(format_args!("output {} true {total} of {assignments}", j + 1))?;
+#[derive(Clone, Copy)]
+struct Answer;
+
+impl Work for Answer {
+    fn answer(self, program: Program<'_>) -> Result<End, Stop> {
+        let mut table = [0u8; program::MOST_BYTES];
+        let used = program.read_table(&mut table)?;
+        let inputs = SoundTable::checked(&table, used)?.counts().inputs;
+        let mut totals = [0u64; MOST_OUTPUTS];
+        let outputs = words::totals(&table, used, &mut totals)?;
+        let assignments = 1u64 << inputs;
+        for (j, total) in totals.iter().take(outputs).enumerate() {
+            program.println(format_args!("output {} true {total} of {assignments}", j + 1))?;
+        }
+        Ok(End::Accepted)
     }
-    Ok(End::Accepted)
 }
 
 fn main(rt: HostRuntime) {
-    program::run(&rt, ABOUT, answer);
+    program::run(&rt, ABOUT, Answer);
 }

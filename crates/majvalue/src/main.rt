@@ -2,7 +2,7 @@
 // or the refusal that the table or the assignment meets.
 #![tactic(auto)]
 
-use program::{About, End, NO_ARGUMENT, Program, Stop};
+use program::{About, End, NO_ARGUMENT, Program, Stop, Work};
 
 const ABOUT: About<'static> = About {
     name: "majvalue",
@@ -16,15 +16,20 @@ const ABOUT: About<'static> = About {
     ..NO_ARGUMENT
 };
 
-fn answer(program: Program<'_>) -> Result<End, Stop> {
-    let assignment = program.number()?;
-    let mut table = [0u8; program::MOST_BYTES];
-    let used = program.read_table(&mut table)?;
-    let outputs = questions::evaluate(&table, used, assignment)?;
-    program.println(format_args!("outputs {outputs}"))?;
-    Ok(End::Accepted)
+#[derive(Clone, Copy)]
+struct Answer;
+
+impl Work for Answer {
+    fn answer(self, program: Program<'_>) -> Result<End, Stop> {
+        let assignment = program.number()?;
+        let mut table = [0u8; program::MOST_BYTES];
+        let used = program.read_table(&mut table)?;
+        let outputs = questions::evaluate(&table, used, assignment)?;
+        program.println(format_args!("outputs {outputs}"))?;
+        Ok(End::Accepted)
+    }
 }
 
 fn main(rt: HostRuntime) {
-    program::run(&rt, ABOUT, answer);
+    program::run(&rt, ABOUT, Answer);
 }

@@ -3,7 +3,7 @@
 #![tactic(auto)]
 
 use majority::MOST_OUTPUTS;
-use program::{About, End, NO_ARGUMENT, Program, Stop, Stream};
+use program::{About, End, NO_ARGUMENT, Program, Stop, Stream, Work};
 use text::Line;
 
 const ABOUT: About<'static> = About {
@@ -18,18 +18,23 @@ const ABOUT: About<'static> = About {
     ..NO_ARGUMENT
 };
 
-fn answer(program: Program<'_>) -> Result<End, Stop> {
-    let first = program.number()?;
-    let mut table = [0u8; program::MOST_BYTES];
-    let used = program.read_table(&mut table)?;
-    let mut words = [0u64; MOST_OUTPUTS];
-    let outputs = words::words(&table, used, first, &mut words)?;
-    for word in words.iter().take(outputs) {
-        program.put(Stream::Output, Line::empty().hexadecimal(*word))?;
+#[derive(Clone, Copy)]
+struct Answer;
+
+impl Work for Answer {
+    fn answer(self, program: Program<'_>) -> Result<End, Stop> {
+        let first = program.number()?;
+        let mut table = [0u8; program::MOST_BYTES];
+        let used = program.read_table(&mut table)?;
+        let mut words = [0u64; MOST_OUTPUTS];
+        let outputs = words::words(&table, used, first, &mut words)?;
+        for word in words.iter().take(outputs) {
+            program.put(Stream::Output, Line::empty().hexadecimal(*word))?;
+        }
+        Ok(End::Accepted)
     }
-    Ok(End::Accepted)
 }
 
 fn main(rt: HostRuntime) {
-    program::run(&rt, ABOUT, answer);
+    program::run(&rt, ABOUT, Answer);
 }

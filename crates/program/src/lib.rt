@@ -93,7 +93,9 @@ fn argument_at(rt: &HostRuntime, i: usize, buffer: &mut [u8]) -> usize
     rt.arg(i, buffer).unwrap_or(0)
 }
 
-// The file that the first argument asks the status to be written to. No program has another use for such an argument.
+// The file that the first argument asks the status to be written to. No program has another use for such an argument. Not inlined, as all that has room for
+// a word or a path: so that room is off the stack again when the work begins, and there only while it is used.
+#[inline(never)]
 fn status_file(rt: &HostRuntime) -> Option<u16> {
     let mut word = [0u8; WORD];
     let len = argument_at(rt, 1, &mut word);
@@ -116,14 +118,14 @@ fn line<D: Display + Drop>(text: D) -> Result<Line, Stop>
     Ok(line)
 }
 
+// What a program does that was called rightly.
+pub trait Work: Copy {
+    // Gives the program's answer, and says how it ends; or what keeps it from its answer.
+    fn answer(self, program: Program<'_>) -> Result<End, Stop>;
+}
+
 // Runs a program's work where it was called rightly, says what keeps it from its answer, and writes the status where it was asked for.
-pub fn run<'a, W: FnOnce(Program<'a>) -> Result<End, Stop> + Drop>(
-    rt: &'a HostRuntime,
-    about: About<'_>,
-    work: W,
-)
-    requires { W.IsAlwaysCallable work }
-{
+pub fn run<W: Work>(rt: &HostRuntime, about: About<'_>, work: W) {
     let program = Program {
         rt,
         name: Line::empty().word(about.name.as_bytes()),
@@ -142,14 +144,10 @@ impl<'a> Program<'a> {
         self.rt
     }
 
-    // Helps where that is asked for, looks at how many arguments there are, and does the work.
-    fn answer<W: FnOnce(Program<'a>) -> Result<End, Stop> + Drop>(
-        self,
-        about: About<'_>,
-        work: W,
-    ) -> Result<End, Stop>
-        requires { W.IsAlwaysCallable work }
-    {
+    // Helps where that is asked for, looks at how many arguments there are, and does the work. Not inlined, so that what the work held is off the stack
+    // before it is said how it ended.
+    #[inline(never)]
+    fn answer<W: Work>(self, about: About<'_>, work: W) -> Result<End, Stop> {
         if self.asked_for_help() {
             return self.help(about);
         }
@@ -160,7 +158,7 @@ impl<'a> Program<'a> {
         if about.most < count {
             return Err(Stop::Superfluous);
         }
-        work(self)
+        work.answer(self)
     }
 
     // The first of its own arguments.
@@ -200,6 +198,7 @@ impl<'a> Program<'a> {
     }
 
     // Its only argument is --help.
+    #[inline(never)]
     fn asked_for_help(self) -> bool {
         let mut word = [0u8; WORD];
         let len = self.argument(&mut word);
@@ -305,18 +304,17 @@ impl<'a> Program<'a> {
     }
 
     // Says why the script that the argument names could not be read, and how the program is called. In the path a question mark stands for a byte that
-    // would end the line, or that a terminal would obey.
+    // would end the line, or that a terminal would obey; each byte is written by itself, so that one that cannot be written keeps back no other. Not
+    // inlined, so that no other program has room for a path on its stack.
+    #[inline(never)]
     fn script_unread(self, error: io::Error, usage: &str) -> End {
         let mut word = [0u8; LONGEST];
         let len = self.argument(&mut word);
-        let path = &mut word[..len];
-        for byte in path.iter_mut() {
-            if byte.is_ascii_control() {
-                *byte = b'?';
-            }
-        }
         let _ = Stream::Error.write(self.rt, self.line().word(b"the script ").as_bytes());
-        let _ = Stream::Error.write(self.rt, path);
+        for byte in &word[..len] {
+            let shown = if byte.is_ascii_control() { b'?' } else { *byte };
+            let _ = Stream::Error.write(self.rt, &[shown]);
+        }
         let why = reason(error);
         let _ = self.eprintln(format_args!(" could not be read: {why}; call it as: {usage}"));
         End::Failed

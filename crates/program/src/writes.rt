@@ -23,6 +23,7 @@ impl Stream {
 
 // Writes all of the bytes to what is open under a number. Under a number of no standard stream it is opened anew, to be written at its end; and to be
 // read, since a pipe that nobody reads any more would else be waited for.
+#[inline(never)]
 pub(crate) fn write_numbered(rt: &HostRuntime, number: u16, bytes: &[u8]) -> io::Result<()> {
     match number {
         0 => Ok(()),

@@ -26,7 +26,7 @@ use Rattle.std.specs.Prelude.{Ok, Err}
 use Rattle.refusals.specs.declared.Refusal.TheVariants as refusal
 
 -- the table that sweep makes
-swept_made : (n : ℕ) (rs : List Record) (rule : Rule) (g a b : ℕ) → is_sweep rule ≡ true → rewritten n rs rule g a b ≡ sweep rs
+pub swept_made : (n : ℕ) (rs : List Record) (rule : Rule) (g a b : ℕ) → is_sweep rule ≡ true → rewritten n rs rule g a b ≡ sweep rs
 unfolding rewritten
 swept_made n rs Exchange g a b e = absurd (true≢false (sym e))
 swept_made n rs Majority g a b e = absurd (true≢false (sym e))

@@ -13,7 +13,7 @@ use Rattle.rewriting.specs.inner.Fitting.{AtGate, Fitting}
 use Rattle.rewriting.specs.declared.applying.Change.{Change}
 
 -- fields that fit name a gate, for every rule but sweep
-at_gate : {xs : List ℕ} {c : Counts} → Sound xs c → (rule : Rule) (g a b : ℕ) → fields_fit c.inputs c.gates rule g a b ≡ true → is_sweep rule ≡ false → AtGate xs c g
+pub at_gate : {xs : List ℕ} {c : Counts} → Sound xs c → (rule : Rule) (g a b : ℕ) → fields_fit c.inputs c.gates rule g a b ≡ true → is_sweep rule ≡ false → AtGate xs c g
 at_gate {c = c} sound rule g a b fits other =
     let w = gate_field c.inputs c.gates g a b rule other fits in
     record { sound = sound; from = w.0; upto = w.1 }

@@ -99,6 +99,6 @@ pub fn follow(s: &mut [u8], used: usize, steps: &[u8], places: &mut [u16]) -> Pr
             start(followed, counts.inputs);
             run(&mut EditedTable::hold(s, counts), steps, followed)
         }
-        Err(refusal) => Progress::stopped(used, refusal),
+        Err(why) => Progress::stopped(used, why),
     }
 }

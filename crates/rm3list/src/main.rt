@@ -1,7 +1,7 @@
 // Lists the RM3 table of the table on standard input, each helper made anew, or prints the refusal that it meets.
 #![tactic(auto)]
 
-use program::{About, NO_ARGUMENT};
+use program::{About, End, NO_ARGUMENT, Program, Stop, Work};
 use translation::Mode;
 
 const ABOUT: About<'static> = About {
@@ -11,6 +11,15 @@ const ABOUT: About<'static> = About {
     ..NO_ARGUMENT
 };
 
+#[derive(Clone, Copy)]
+struct Answer;
+
+impl Work for Answer {
+    fn answer(self, program: Program<'_>) -> Result<End, Stop> {
+        listing::answer(program, Mode::Anew)
+    }
+}
+
 fn main(rt: HostRuntime) {
-    program::run(&rt, ABOUT, |program| listing::answer(program, Mode::Anew));
+    program::run(&rt, ABOUT, Answer);
 }

@@ -2,7 +2,7 @@
 // so, each made anew. Where it cannot, says why on standard error.
 #![tactic(auto)]
 
-use program::{About, End, NO_ARGUMENT, Program, Stop, Stream};
+use program::{About, End, NO_ARGUMENT, Program, Stop, Stream, Work};
 use translation::Mode;
 
 const ABOUT: About<'static> = About {
@@ -29,16 +29,21 @@ fn mode(program: Program<'_>) -> Result<Mode, Stop> {
     Err(Stop::Wrong)
 }
 
-fn answer(program: Program<'_>) -> Result<End, Stop> {
-    let mode = mode(program)?;
-    let mut table = [0u8; program::MOST_BYTES];
-    let used = program.read_table(&mut table)?;
-    let mut out = [0u8; rm3::MOST_BYTES];
-    let length = rm3::translate(mode, &table, used, &mut out)?;
-    program.write_first(length, &out)?;
-    Ok(End::Accepted)
+#[derive(Clone, Copy)]
+struct Answer;
+
+impl Work for Answer {
+    fn answer(self, program: Program<'_>) -> Result<End, Stop> {
+        let mode = mode(program)?;
+        let mut table = [0u8; program::MOST_BYTES];
+        let used = program.read_table(&mut table)?;
+        let mut out = [0u8; rm3::MOST_BYTES];
+        let length = rm3::translate(mode, &table, used, &mut out)?;
+        program.write_first(length, &out)?;
+        Ok(End::Accepted)
+    }
 }
 
 fn main(rt: HostRuntime) {
-    program::run(&rt, ABOUT, answer);
+    program::run(&rt, ABOUT, Answer);
 }

@@ -8,7 +8,7 @@ use majority::Counts;
 // What a rule may ask of the fields a and b: a to be 0, 1 or 2, or a gate below the gate field, and b 0; or a and b to be nodes in rising order
 // below the gate field.
 #[derive(Clone, Copy)]
-enum Asked {
+pub enum Asked {
     Zero,
     OneOrTwo,
     LowerGate,

@@ -8,7 +8,7 @@ mod gates;
 ghost use Rattle.std.specs.Prelude.{◌≡◌};
 ghost use Rattle.rules.specs.Step.{rule_of, is_sweep, is_inversion};
 
-pub use fields::{fields_fit, inserted};
+pub use fields::{Asked, fields_fit, inserted};
 pub use forms::{
     associativity_form, both_among, inward_form, majority_form, opposite_form, outward_form,
     plain_gate, share_form,

@@ -4,7 +4,7 @@
 ghost use Rattle.std.specs.Prelude.{◌≤◌};
 
 use majority::{Counts, Record};
-use program::{About, End, NO_ARGUMENT, Program, Stop};
+use program::{About, End, NO_ARGUMENT, Program, Stop, Work};
 use refusals::Refusal;
 use rules::Step;
 use std::fmt;
@@ -124,18 +124,23 @@ fn rule_3(program: Program<'_>, count: u16) -> Result<(), Stop>
     program.println(format_args!("rule 3 at {count} gates: {stepped}"))
 }
 
-fn answer(program: Program<'_>) -> Result<End, Stop> {
-    inputs(program, 32)?;
-    inputs(program, 33)?;
-    gates(program, 1024)?;
-    gates(program, 1025)?;
-    rule_3(program, 1024)?;
-    rule_3(program, 1023)?;
-    gate_3(program, 6)?;
-    gate_3(program, 5)?;
-    Ok(End::Accepted)
+#[derive(Clone, Copy)]
+struct Answer;
+
+impl Work for Answer {
+    fn answer(self, program: Program<'_>) -> Result<End, Stop> {
+        inputs(program, 32)?;
+        inputs(program, 33)?;
+        gates(program, 1024)?;
+        gates(program, 1025)?;
+        rule_3(program, 1024)?;
+        rule_3(program, 1023)?;
+        gate_3(program, 6)?;
+        gate_3(program, 5)?;
+        Ok(End::Accepted)
+    }
 }
 
 fn main(rt: HostRuntime) {
-    program::run(&rt, ABOUT, answer);
+    program::run(&rt, ABOUT, Answer);
 }

@@ -166,3 +166,9 @@ module _ (xs : List ℕ) (k last i : ℕ) where
       go : (t : Bool) → (if t then Err (fault_of last i (record_as xs i k)) else Ok (tt {0})) ≡ Ok u → t ≡ false
       go true s = let z : ◌≡◌ {A = ℕ} 0 1 = cc in absurd (omega arith)
       go false s = refl
+
+-- where two searches up to the same end find the same record, the runs have the same fault
+pub same_run : (xs : List ℕ) (k last from i to : ℕ) → first_from (faulty_as xs k last) from (to - from) ≡ first_from (faulty_as xs k last) i (to - i)
+    → run_checked xs k last from to ≡ run_checked xs k last i to
+unfolding run_checked
+same_run xs k last from i to e = rw e

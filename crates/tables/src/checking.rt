@@ -125,27 +125,28 @@ fn reads_lower(i: usize, gate: Record) -> bool
     !names_past(i, gate.e1) & !names_past(i, gate.e2) & !names_past(i, gate.e3)
 }
 
-// All gates from `from` on, up to `to`, read lower nodes alone: one pass that nothing leaves, which is what takes the check's time.
-fn all_read_lower(s: &[u8], from: usize, to: usize) -> bool
+// The first gate from `from` on, up to `to`, that reads another node than lower ones, or `to`: none before it has a fault.
+#[tactic(auto, using(majority::proofs::Seek::seek_next))]
+fn first_not_lower(s: &[u8], from: usize, to: usize) -> usize
     requires { (8 * to ≤ length s.now) × (from ≤ to) }
-    ensures { result ≡ true → (last : ℕ) → run_checked s.now 2 last from to ≡ Ok tt }
+    ensures within { (from ≤ result) × (result ≤ to) }
+    ensures faults { (last : ℕ) → run_checked s.now 2 last from to ≡ run_checked s.now 2 last result to }
 {
-    let mut good = true;
     for i in from..to {
-        good &= reads_lower(i, record_as(s, i, GATE));
+        if !reads_lower(i, record_as(s, i, GATE)) {
+            return i;
+        }
     }
-    good
+    to
 }
 
-// Refusals 4 and 5 of the gates from `from` on, up to `to`: the first fault is sought only where there is one.
+// Refusals 4 and 5 of the gates from `from` on, up to `to`: what takes the check's time is the search for the first that may have one.
 fn check_gates(s: &[u8], from: usize, to: usize, last: usize) -> Result<(), Refusal>
     requires { (8 * to ≤ length s.now) × (from ≤ to) × (2 * last + 1 ≤ 18446744073709551615) }
     ensures { result ≡ run_checked s.now 2 last from to }
 {
-    if all_read_lower(s, from, to) {
-        return Ok(());
-    }
-    check_run(s, from, to, GATE, last)
+    let fault = first_not_lower(s, from, to);
+    check_run(s, fault, to, GATE, last)
 }
 
 // Refusals 4 and 5 of n records with these counts: a loop for each kind.

@@ -1,3 +1,4 @@
+mod Asked  -- the order of what words and totals ask for
 mod Bits  -- words bit by bit
 mod Pass  -- the law of the pass: bit by bit, the words of edges are their values
 mod InputWords  -- the words of inputs
