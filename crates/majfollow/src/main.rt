@@ -40,6 +40,26 @@ impl Display for Followed {
     }
 }
 
+// Follows the gates of the table on standard input through the steps of a script. Not inlined, so that the table's room comes after that of the script's path.
+#[inline(never)]
+fn follow(program: Program<'_>, steps: &[u8]) -> Result<End, Stop> {
+    let mut table = [0u8; program::MOST_BYTES];
+    let used = program.read_table(&mut table)?;
+    let inputs = tables::check(&table, used).map_or(0, |counts| counts.inputs);
+    let mut places = [UNWRITTEN; MOST_GATES];
+    let progress = rewriting::follow(&mut table, used, steps, &mut places);
+    for (i, edge) in places.iter().enumerate() {
+        if *edge == UNWRITTEN {
+            break;
+        }
+        program.println(Followed {
+            gate: inputs + i + 1,
+            edge: *edge,
+        })?;
+    }
+    scripts::reply(program, progress)
+}
+
 #[derive(Clone, Copy)]
 struct Answer;
 
@@ -47,21 +67,7 @@ impl Work for Answer {
     fn answer(self, program: Program<'_>) -> Result<End, Stop> {
         let mut buffer = [0u8; scripts::ROOM];
         let script = scripts::read_script(program, &mut buffer)?;
-        let mut table = [0u8; program::MOST_BYTES];
-        let used = program.read_table(&mut table)?;
-        let inputs = tables::check(&table, used).map_or(0, |counts| counts.inputs);
-        let mut places = [UNWRITTEN; MOST_GATES];
-        let progress = rewriting::follow(&mut table, used, &buffer[..script], &mut places);
-        for (i, edge) in places.iter().enumerate() {
-            if *edge == UNWRITTEN {
-                break;
-            }
-            program.println(Followed {
-                gate: inputs + i + 1,
-                edge: *edge,
-            })?;
-        }
-        scripts::reply(program, progress)
+        follow(program, &buffer[..script])
     }
 }
 

@@ -17,6 +17,16 @@ const ABOUT: About<'static> = About {
     ..NO_ARGUMENT
 };
 
+// Runs the steps of a script on the table on standard input. Not inlined, so that the table's room comes after that of the script's path.
+#[inline(never)]
+fn run(program: Program<'_>, steps: &[u8]) -> Result<End, Stop> {
+    let mut table = [0u8; program::MOST_BYTES];
+    let used = program.read_table(&mut table)?;
+    let progress = rewriting::script(&mut table, used, steps);
+    program.write_first(progress.used, &table)?;
+    scripts::reply(program, progress)
+}
+
 #[derive(Clone, Copy)]
 struct Answer;
 
@@ -24,11 +34,7 @@ impl Work for Answer {
     fn answer(self, program: Program<'_>) -> Result<End, Stop> {
         let mut buffer = [0u8; scripts::ROOM];
         let script = scripts::read_script(program, &mut buffer)?;
-        let mut table = [0u8; program::MOST_BYTES];
-        let used = program.read_table(&mut table)?;
-        let progress = rewriting::script(&mut table, used, &buffer[..script]);
-        program.write_first(progress.used, &table)?;
-        scripts::reply(program, progress)
+        run(program, &buffer[..script])
     }
 }
 

@@ -26,7 +26,8 @@ fn open_read(program: Program<'_>, path: &[u8]) -> io::Result<File> {
 }
 
 // Reads the script that the program's argument names whole to the start of the buffer. A file that was opened under one of the first three numbers
-// stands where a standard one should.
+// stands where a standard one should. Not inlined, so that the room of the path is off the stack when the script runs.
+#[inline(never)]
 pub fn read_script(program: Program<'_>, buffer: &mut [u8]) -> Result<usize, Stop>
     ensures { IfOk result (λ n. n ≤ length buffer.new) }
 {
