@@ -56,12 +56,12 @@ pub fn read_number(program: Program<'_>) -> Result<u32, Fault> {
 pub fn read_step(program: Program<'_>) -> Result<Step, Fault> {
     let mut bytes = [0u8; 8];
     fill(program, &mut bytes)?;
-    let [r, rule, g, gate, x, a, y, b] = bytes;
+    let [r0, r1, g0, g1, a0, a1, b0, b1] = bytes;
     Ok(Step {
-        rule: u16::from_le_bytes([r, rule]),
-        gate: u16::from_le_bytes([g, gate]),
-        a: u16::from_le_bytes([x, a]),
-        b: u16::from_le_bytes([y, b]),
+        rule: u16::from_le_bytes([r0, r1]),
+        gate: u16::from_le_bytes([g0, g1]),
+        a: u16::from_le_bytes([a0, a1]),
+        b: u16::from_le_bytes([b0, b1]),
     })
 }
 
