@@ -36,5 +36,5 @@ impl Work for Answer {
 }
 
 fn main(rt: HostRuntime) {
-    program::run(&rt, ABOUT, Answer);
+    program::run_work(&rt, ABOUT, Answer);
 }

@@ -4,6 +4,8 @@
 mod reads;
 mod reasons;
 mod stops;
+#[cfg(test)]
+mod tests;
 mod writes;
 
 ghost use Rattle.std.specs.Prelude.{◌≡◌, ◌≤◌, IfOk, IfErr};
@@ -125,13 +127,33 @@ pub trait Work: Copy {
 }
 
 // Runs a program's work where it was called rightly, says what keeps it from its answer, and writes the status where it was asked for.
-pub fn run<W: Work>(rt: &HostRuntime, about: About<'_>, work: W) {
+pub fn run_work<W: Work>(rt: &HostRuntime, about: About<'_>, work: W) {
     let program = Program {
         rt,
         name: Line::empty().word(about.name.as_bytes()),
         status: status_file(rt),
     };
     let end = match program.answer(about, work) {
+        Ok(end) => end,
+        Err(stop) => program.say(about, stop),
+    };
+    program.end(end);
+}
+
+// The same where the work is a closure, which may hold what cannot be copied, and keep the program. It asks of its caller that the closure can be called.
+pub fn run<'a, W: FnOnce(Program<'a>) -> Result<End, Stop> + Drop>(
+    rt: &'a HostRuntime,
+    about: About<'_>,
+    work: W,
+)
+    requires { W.IsAlwaysCallable work }
+{
+    let program = Program {
+        rt,
+        name: Line::empty().word(about.name.as_bytes()),
+        status: status_file(rt),
+    };
+    let end = match program.answer_by(about, work) {
         Ok(end) => end,
         Err(stop) => program.say(about, stop),
     };
@@ -159,6 +181,28 @@ impl<'a> Program<'a> {
             return Err(Stop::Superfluous);
         }
         work.answer(self)
+    }
+
+    // The same where the work is a closure.
+    #[inline(never)]
+    fn answer_by<W: FnOnce(Program<'a>) -> Result<End, Stop> + Drop>(
+        self,
+        about: About<'_>,
+        work: W,
+    ) -> Result<End, Stop>
+        requires callable { W.IsAlwaysCallable work }
+    {
+        if self.asked_for_help() {
+            return self.help(about);
+        }
+        let count = self.arguments();
+        if count < about.fewest {
+            return Err(Stop::Missing);
+        }
+        if about.most < count {
+            return Err(Stop::Superfluous);
+        }
+        work(self)
     }
 
     // The first of its own arguments.
